@@ -35,7 +35,6 @@ use Rattle.instruction.proofs.Reading.{reads}
 use Rattle.instruction.proofs.Rows.{each-read}
 
 infixr 20 _&_
-
 -- a proof for a row, and those for the rows after it
 abbrev _&_ : {A B : Type 0} → A → B → A × B
 a & b = (a, b)
@@ -144,33 +143,36 @@ module _ (w : ℕ) where
     function-sound : Sound (byFunction (inField FUNCTION w) w)
     function-sound =
         elim (cases-eq (inField FUNCTION w / 8) 5) [
-          inl e ↦ rw (eq-eqb _ _ e) (test-sound e)
-        | inr n ↦ rw (ne-eqb _ _ n) (each-read Sound functions (inField FUNCTION w) w (
-            shift-immediate-sound shift.Left & shift-immediate-sound shift.Right & shift-immediate-sound shift.RightArithmetic &
-            shift-sound shift.Left & shift-sound shift.Right & shift-sound shift.RightArithmetic &
-            read-special-sound & write-special-sound &
-            alu-sound alu.Add & alu-sound alu.AddUnsigned & alu-sound alu.Sub & alu-sound alu.SubUnsigned &
-            alu-sound alu.And & alu-sound alu.Or & alu-sound alu.Xor &
-            high-sound & tt)) ]
+          | inl e ↦ rw (eq-eqb _ _ e) (test-sound e)
+          | inr n ↦ rw (ne-eqb _ _ n) (each-read Sound functions (inField FUNCTION w) w (
+              shift-immediate-sound shift.Left & shift-immediate-sound shift.Right & shift-immediate-sound shift.RightArithmetic &
+              shift-sound shift.Left & shift-sound shift.Right & shift-sound shift.RightArithmetic &
+              read-special-sound & write-special-sound &
+              alu-sound alu.Add & alu-sound alu.AddUnsigned & alu-sound alu.Sub & alu-sound alu.SubUnsigned &
+              alu-sound alu.And & alu-sound alu.Or & alu-sound alu.Xor &
+              high-sound & tt))
+        ]
 
   sound : Sound (decodedOf w)
   unfolding decodedOf
   sound =
       elim (cases-eq (inField OPCODE w) 0) [
-        inl z ↦ rw (eq-eqb _ _ z) (function-sound z)
-      | inr n ↦ rw (ne-eqb _ _ n) (elim (cases-eq (inField OPCODE w / 8) 3) [
-          inl e ↦ rw (eq-eqb _ _ e) (test-immediate-sound e)
-        | inr m ↦ rw (ne-eqb _ _ m) (each-read Sound opcodes (inField OPCODE w) w (
-            jump-sound false & jump-sound true &
-            branch-sound condition.Zero & branch-sound condition.NotZero &
-            alu-immediate-sound alu.Add & alu-immediate-sound alu.AddUnsigned &
-            alu-immediate-sound alu.Sub & alu-immediate-sound alu.SubUnsigned &
-            alu-immediate-sound alu.And & alu-immediate-sound alu.Or & alu-immediate-sound alu.Xor &
-            high-immediate-sound & jump-register-sound false & jump-register-sound true &
-            load-sound load.Byte & load-sound load.Half & load-sound load.Word &
-            load-sound load.ByteUnsigned & load-sound load.HalfUnsigned &
-            store-sound store.Byte & store-sound store.Half & store-sound store.Word &
-            trap-sound & return-sound & tt)) ]) ]
+        | inl z ↦ rw (eq-eqb _ _ z) (function-sound z)
+        | inr n ↦ rw (ne-eqb _ _ n) (elim (cases-eq (inField OPCODE w / 8) 3) [
+          | inl e ↦ rw (eq-eqb _ _ e) (test-immediate-sound e)
+          | inr m ↦ rw (ne-eqb _ _ m) (each-read Sound opcodes (inField OPCODE w) w (
+              jump-sound false & jump-sound true &
+              branch-sound condition.Zero & branch-sound condition.NotZero &
+              alu-immediate-sound alu.Add & alu-immediate-sound alu.AddUnsigned &
+              alu-immediate-sound alu.Sub & alu-immediate-sound alu.SubUnsigned &
+              alu-immediate-sound alu.And & alu-immediate-sound alu.Or & alu-immediate-sound alu.Xor &
+              high-immediate-sound & jump-register-sound false & jump-register-sound true &
+              load-sound load.Byte & load-sound load.Half & load-sound load.Word &
+              load-sound load.ByteUnsigned & load-sound load.HalfUnsigned &
+              store-sound store.Byte & store-sound store.Half & store-sound store.Word &
+              trap-sound & return-sound & tt))
+        ])
+      ]
 
   -- two answers, one word
   same-answer : (i j : Instruction) → decodedOf w ≡ Some i → decodedOf w ≡ Some j → j ≡ i
@@ -185,7 +187,7 @@ module _ (w : ℕ) where
   decided (Some i) e h = record {
     reads = h;
     only = λ j k. same-answer i j e (reads w j k);
-    back = kept-placed (layout i) w h
+    back = kept-placed (layout i) w h;
   }
 
   pub decides : Decides w (decodedOf w)

@@ -21,20 +21,26 @@ pub immediate-packed :
     → bitOr (bitOr (bitOr ((a * 2 ^ 26) % 2 ^ 32) ((b * 2 ^ 21) % 2 ^ 32)) ((d * 2 ^ 16) % 2 ^ 32)) e ≡ a * 2 ^ 26 + b * 2 ^ 21 + d * 2 ^ 16 + e
 immediate-packed a b d e ha hb hd he =
     let p : (a * 2 ^ 26) % 2 ^ 32 ≡ a * 2 ^ 26 = omega arith in
-    rw (p, or-field (a * 2 ^ 26) 21 5 b (omega arith) hb (omega arith),
-        or-field (a * 2 ^ 26 + b * 2 ^ 21) 16 5 d (omega arith) hd (omega arith),
-        or-below (a * 2 ^ 26 + b * 2 ^ 21 + d * 2 ^ 16) 16 e (omega arith) he)
+    rw (
+      p,
+      or-field (a * 2 ^ 26) 21 5 b (omega arith) hb (omega arith),
+      or-field (a * 2 ^ 26 + b * 2 ^ 21) 16 5 d (omega arith) hd (omega arith),
+      or-below (a * 2 ^ 26 + b * 2 ^ 21 + d * 2 ^ 16) 16 e (omega arith) he,
+    )
 
 pub register-packed :
     (a b d e f : ℕ) → a < 32 → b < 32 → d < 32 → e < 32 → f < 64
     → bitOr (bitOr (bitOr (bitOr ((a * 2 ^ 21) % 2 ^ 32) ((b * 2 ^ 16) % 2 ^ 32)) ((d * 2 ^ 11) % 2 ^ 32)) ((e * 2 ^ 6) % 2 ^ 32)) f
-      ≡ a * 2 ^ 21 + b * 2 ^ 16 + d * 2 ^ 11 + e * 2 ^ 6 + f
+    ≡ a * 2 ^ 21 + b * 2 ^ 16 + d * 2 ^ 11 + e * 2 ^ 6 + f
 register-packed a b d e f ha hb hd he hf =
     let p : (a * 2 ^ 21) % 2 ^ 32 ≡ a * 2 ^ 21 = omega arith in
-    rw (p, or-field (a * 2 ^ 21) 16 5 b (omega arith) hb (omega arith),
-        or-field (a * 2 ^ 21 + b * 2 ^ 16) 11 5 d (omega arith) hd (omega arith),
-        or-field (a * 2 ^ 21 + b * 2 ^ 16 + d * 2 ^ 11) 6 5 e (omega arith) he (omega arith),
-        or-below (a * 2 ^ 21 + b * 2 ^ 16 + d * 2 ^ 11 + e * 2 ^ 6) 6 f (omega arith) hf)
+    rw (
+      p,
+      or-field (a * 2 ^ 21) 16 5 b (omega arith) hb (omega arith),
+      or-field (a * 2 ^ 21 + b * 2 ^ 16) 11 5 d (omega arith) hd (omega arith),
+      or-field (a * 2 ^ 21 + b * 2 ^ 16 + d * 2 ^ 11) 6 5 e (omega arith) he (omega arith),
+      or-below (a * 2 ^ 21 + b * 2 ^ 16 + d * 2 ^ 11 + e * 2 ^ 6) 6 f (omega arith) hf,
+    )
 
 pub jump-packed : (a e : ℕ) → a < 64 → e < 2 ^ 26 → bitOr ((a * 2 ^ 26) % 2 ^ 32) e ≡ a * 2 ^ 26 + e
 jump-packed a e ha he =

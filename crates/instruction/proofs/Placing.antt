@@ -50,20 +50,22 @@ placed-below (part ∷ parts) top laid =
 pub holds-placed : (parts : List (Field × ℕ)) (top : ℕ) → Laid parts top → Holds parts (placed parts)
 holds-placed [] top laid = tt
 holds-placed (part ∷ parts) top laid =
-    let rest = placed-below parts (part .0 .low) (laid .1 .1) in
-    (ap (λ (n : ℕ). n % 2 ^ (part .0 .width)) (shr-high (part .1) (part .0 .low) (placed parts) rest) ∙ mod-eq-of-lt (laid .1 .0),
-     holds-above parts (part .0 .low) (part .1) (placed parts) (part .0 .low) (omega arith) (laid .1 .1) (holds-placed parts (part .0 .low) (laid .1 .1)))
+    let rest = placed-below parts (part .0 .low) (laid .1 .1) in (
+      ap (λ (n : ℕ). n % 2 ^ (part .0 .width)) (shr-high (part .1) (part .0 .low) (placed parts) rest) ∙ mod-eq-of-lt (laid .1 .0),
+      holds-above parts (part .0 .low) (part .1) (placed parts) (part .0 .low) (omega arith) (laid .1 .1) (holds-placed parts (part .0 .low) (laid .1 .1)),
+    )
 
 -- bits that lie in no field are 0
 pub outside-zero : (parts : List (Field × ℕ)) (top k : ℕ) → Laid parts top → Outside parts k → bitOf k (placed parts) ≡ 0
 outside-zero [] top k laid out = ap (λ (n : ℕ). n % 2) (zero-div (2 ^ k))
 outside-zero (part ∷ parts) top k laid out =
     elim (out .0) [
-      inl below ↦ above (record { low = k; width = 1 }) (part .1) (placed parts) (part .0 .low) (omega arith) ∙ outside-zero parts (part .0 .low) k (laid .1 .1) (out .1)
-    | inr past ↦
-        let whole = placed-below (part ∷ parts) (part .0 .low + part .0 .width) (omega arith, laid .1) in
-        let le : 2 ^ (part .0 .low + part .0 .width) ≤ 2 ^ k = pow-mono past in
-        ap (λ (n : ℕ). n % 2) (div-eq-of-lt (omega arith)) ]
+      | inl below ↦ above (record { low = k; width = 1 }) (part .1) (placed parts) (part .0 .low) (omega arith) ∙ outside-zero parts (part .0 .low) k (laid .1 .1) (out .1)
+      | inr past ↦
+          let whole = placed-below (part ∷ parts) (part .0 .low + part .0 .width) (omega arith, laid .1) in
+          let le : 2 ^ (part .0 .low + part .0 .width) ≤ 2 ^ k = pow-mono past in
+          ap (λ (n : ℕ). n % 2) (div-eq-of-lt (omega arith))
+    ]
 
 -- where the fields hold their values, keeping those fields gives the word made of the values
 pub kept-placed : (parts : List (Field × ℕ)) (w : ℕ) → Holds parts w → placed parts ≡ kept parts w

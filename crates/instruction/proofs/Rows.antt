@@ -34,5 +34,6 @@ pub each-read : (P : Option Instruction → Type 0) (rows : List (ℕ × Reader)
 each-read P [] code w h = h
 each-read P (row ∷ rows) code w h =
     elim (cases-eq code (row .0)) [
-      inl e ↦ rw (eq-eqb code (row .0) e) (h .0 e)
-    | inr n ↦ rw (ne-eqb code (row .0) n) (each-read P rows code w (h .1)) ]
+      | inl e ↦ rw (eq-eqb code (row .0) e) (h .0 e)
+      | inr n ↦ rw (ne-eqb code (row .0) n) (each-read P rows code w (h .1))
+    ]

@@ -5,3 +5,4 @@ pub mod Layout
 pub mod Laws
 pub mod Numbers
 pub mod Worked
+pub mod Notation

@@ -1,9 +1,8 @@
-// Words read as instructions.
+// Words read as instructions: a function for each row of the table, and the table by opcode and by function.
 ghost use mathlib.Core.Path.{_≡_};
 ghost use Rattle.instruction.specs.Fields.{inField, OPCODE, FUNCTION};
 ghost use Rattle.instruction.specs.Laws.{Decides};
-ghost use Rattle.instruction.specs.Table.{decodedOf, byOpcode, byFunction};
-
+ghost use Rattle.instruction.specs.Table.{decodedOf, byOpcode, byFunction, loads, stores, alusImmediate, loadsHighImmediate, testsImmediate, branches, jumpsRegister, jumps, traps, shiftsImmediate, shifts, readsSpecial, writesSpecial, alus, loadsHigh, tests};
 use crate::field::Immediate;
 use crate::field::Offset;
 use crate::field::Register;
@@ -18,6 +17,17 @@ use crate::operation::ShiftOp;
 use crate::operation::SpecialRegister;
 use crate::operation::StoreKind;
 
+// The lowest bit of each register field: RS1 stands in one place, RD by the form, and RS2 where the I form has RD.
+const RS1: u32 = 21;
+
+const RD_I: u32 = 16;
+
+const RS2: u32 = 16;
+
+const RD_R: u32 = 11;
+
+const SA: u32 = 6;
+
 // The instruction that `word` reads as, or none where it is illegal. Fields that the instruction does not use are ignored.
 pub fn decode(word: u32) -> Option<Instruction>
     ensures value { λ r. ⌜ r ≡ decodedOf word ⌝ }
@@ -29,37 +39,33 @@ pub fn decode(word: u32) -> Option<Instruction>
 fn decode_opcode(word: u32) -> Option<Instruction>
     ensures { λ r. ⌜ r ≡ byOpcode (inField OPCODE word) word ⌝ }
 {
-    let rs1 = Register::at(word, 21);
-    let rd = Register::at(word, 16);
-    let imm = Immediate::of(word);
-    let offset = Offset::of(word);
     let opcode = bits(word, 26, 6);
     match opcode {
         0x00 => decode_function(word),
-        0x02 => Some(Instruction::Jump { link: false, offset }),
-        0x03 => Some(Instruction::Jump { link: true, offset }),
-        0x04 => Some(Instruction::Branch { condition: Condition::Zero, rs1, imm }),
-        0x05 => Some(Instruction::Branch { condition: Condition::NotZero, rs1, imm }),
-        0x08 => Some(Instruction::AluImmediate { op: AluOp::Add, rd, rs1, imm }),
-        0x09 => Some(Instruction::AluImmediate { op: AluOp::AddUnsigned, rd, rs1, imm }),
-        0x0a => Some(Instruction::AluImmediate { op: AluOp::Sub, rd, rs1, imm }),
-        0x0b => Some(Instruction::AluImmediate { op: AluOp::SubUnsigned, rd, rs1, imm }),
-        0x0c => Some(Instruction::AluImmediate { op: AluOp::And, rd, rs1, imm }),
-        0x0d => Some(Instruction::AluImmediate { op: AluOp::Or, rd, rs1, imm }),
-        0x0e => Some(Instruction::AluImmediate { op: AluOp::Xor, rd, rs1, imm }),
-        0x0f => Some(Instruction::LoadHighImmediate { rd, imm }),
-        0x16 => Some(Instruction::JumpRegister { link: false, rs1 }),
-        0x17 => Some(Instruction::JumpRegister { link: true, rs1 }),
-        0x18..=0x1f => Some(Instruction::TestImmediate { relations: Relations::from_code(opcode), rd, rs1, imm }),
-        0x20 => Some(Instruction::Load { kind: LoadKind::Byte, rd, rs1, imm }),
-        0x21 => Some(Instruction::Load { kind: LoadKind::Half, rd, rs1, imm }),
-        0x23 => Some(Instruction::Load { kind: LoadKind::Word, rd, rs1, imm }),
-        0x24 => Some(Instruction::Load { kind: LoadKind::ByteUnsigned, rd, rs1, imm }),
-        0x25 => Some(Instruction::Load { kind: LoadKind::HalfUnsigned, rd, rs1, imm }),
-        0x28 => Some(Instruction::Store { kind: StoreKind::Byte, rd, rs1, imm }),
-        0x29 => Some(Instruction::Store { kind: StoreKind::Half, rd, rs1, imm }),
-        0x2b => Some(Instruction::Store { kind: StoreKind::Word, rd, rs1, imm }),
-        0x3e => Some(Instruction::Trap { offset }),
+        0x02 => jump(false, word),
+        0x03 => jump(true, word),
+        0x04 => branch(Condition::Zero, word),
+        0x05 => branch(Condition::NotZero, word),
+        0x08 => alu_immediate(AluOp::Add, word),
+        0x09 => alu_immediate(AluOp::AddUnsigned, word),
+        0x0a => alu_immediate(AluOp::Sub, word),
+        0x0b => alu_immediate(AluOp::SubUnsigned, word),
+        0x0c => alu_immediate(AluOp::And, word),
+        0x0d => alu_immediate(AluOp::Or, word),
+        0x0e => alu_immediate(AluOp::Xor, word),
+        0x0f => load_high_immediate(word),
+        0x16 => jump_register(false, word),
+        0x17 => jump_register(true, word),
+        0x18..=0x1f => test_immediate(opcode, word),
+        0x20 => load(LoadKind::Byte, word),
+        0x21 => load(LoadKind::Half, word),
+        0x23 => load(LoadKind::Word, word),
+        0x24 => load(LoadKind::ByteUnsigned, word),
+        0x25 => load(LoadKind::HalfUnsigned, word),
+        0x28 => store(StoreKind::Byte, word),
+        0x29 => store(StoreKind::Half, word),
+        0x2b => store(StoreKind::Word, word),
+        0x3e => trap(word),
         0x3f => Some(Instruction::ReturnFromException),
         _ => None,
     }
@@ -68,35 +74,160 @@ fn decode_opcode(word: u32) -> Option<Instruction>
 fn decode_function(word: u32) -> Option<Instruction>
     ensures { λ r. ⌜ r ≡ byFunction (inField FUNCTION word) word ⌝ }
 {
-    let rs1 = Register::at(word, 21);
-    let rs2 = Register::at(word, 16);
-    let rd = Register::at(word, 11);
-    let amount = ShiftAmount::at(word, 6);
     let function = bits(word, 0, 6);
     match function {
-        0x00 => Some(Instruction::ShiftImmediate { op: ShiftOp::Left, rd, rs1, amount }),
-        0x02 => Some(Instruction::ShiftImmediate { op: ShiftOp::Right, rd, rs1, amount }),
-        0x03 => Some(Instruction::ShiftImmediate { op: ShiftOp::RightArithmetic, rd, rs1, amount }),
-        0x04 => Some(Instruction::Shift { op: ShiftOp::Left, rd, rs1, rs2 }),
-        0x06 => Some(Instruction::Shift { op: ShiftOp::Right, rd, rs1, rs2 }),
-        0x07 => Some(Instruction::Shift { op: ShiftOp::RightArithmetic, rd, rs1, rs2 }),
-        0x10 => {
-            let special = SpecialRegister::from_number(bits(word, 6, 5))?;
-            Some(Instruction::ReadSpecial { rd, special })
-        }
-        0x11 => {
-            let special = SpecialRegister::from_number(bits(word, 6, 5))?;
-            Some(Instruction::WriteSpecial { special, rs1 })
-        }
-        0x20 => Some(Instruction::Alu { op: AluOp::Add, rd, rs1, rs2 }),
-        0x21 => Some(Instruction::Alu { op: AluOp::AddUnsigned, rd, rs1, rs2 }),
-        0x22 => Some(Instruction::Alu { op: AluOp::Sub, rd, rs1, rs2 }),
-        0x23 => Some(Instruction::Alu { op: AluOp::SubUnsigned, rd, rs1, rs2 }),
-        0x24 => Some(Instruction::Alu { op: AluOp::And, rd, rs1, rs2 }),
-        0x25 => Some(Instruction::Alu { op: AluOp::Or, rd, rs1, rs2 }),
-        0x26 => Some(Instruction::Alu { op: AluOp::Xor, rd, rs1, rs2 }),
-        0x27 => Some(Instruction::LoadHigh { rd, rs2 }),
-        0x28..=0x2f => Some(Instruction::Test { relations: Relations::from_code(function), rd, rs1, rs2 }),
+        0x00 => shift_immediate(ShiftOp::Left, word),
+        0x02 => shift_immediate(ShiftOp::Right, word),
+        0x03 => shift_immediate(ShiftOp::RightArithmetic, word),
+        0x04 => shift(ShiftOp::Left, word),
+        0x06 => shift(ShiftOp::Right, word),
+        0x07 => shift(ShiftOp::RightArithmetic, word),
+        0x10 => read_special(word),
+        0x11 => write_special(word),
+        0x20 => alu(AluOp::Add, word),
+        0x21 => alu(AluOp::AddUnsigned, word),
+        0x22 => alu(AluOp::Sub, word),
+        0x23 => alu(AluOp::SubUnsigned, word),
+        0x24 => alu(AluOp::And, word),
+        0x25 => alu(AluOp::Or, word),
+        0x26 => alu(AluOp::Xor, word),
+        0x27 => load_high(word),
+        0x28..=0x2f => test(function, word),
         _ => None,
     }
+}
+
+fn load(kind: LoadKind, word: u32) -> Option<Instruction>
+    ensures { λ r. ⌜ r ≡ loads kind word ⌝ }
+{
+    let rd = Register::at(word, RD_I);
+    let rs1 = Register::at(word, RS1);
+    let imm = Immediate::of(word);
+    Some(Instruction::Load { kind, rd, rs1, imm })
+}
+
+fn store(kind: StoreKind, word: u32) -> Option<Instruction>
+    ensures { λ r. ⌜ r ≡ stores kind word ⌝ }
+{
+    let rd = Register::at(word, RD_I);
+    let rs1 = Register::at(word, RS1);
+    let imm = Immediate::of(word);
+    Some(Instruction::Store { kind, rd, rs1, imm })
+}
+
+fn alu_immediate(op: AluOp, word: u32) -> Option<Instruction>
+    ensures { λ r. ⌜ r ≡ alusImmediate op word ⌝ }
+{
+    let rd = Register::at(word, RD_I);
+    let rs1 = Register::at(word, RS1);
+    let imm = Immediate::of(word);
+    Some(Instruction::AluImmediate { op, rd, rs1, imm })
+}
+
+fn load_high_immediate(word: u32) -> Option<Instruction>
+    ensures { λ r. ⌜ r ≡ loadsHighImmediate word ⌝ }
+{
+    let rd = Register::at(word, RD_I);
+    let imm = Immediate::of(word);
+    Some(Instruction::LoadHighImmediate { rd, imm })
+}
+
+fn test_immediate(code: u32, word: u32) -> Option<Instruction>
+    ensures { λ r. ⌜ r ≡ testsImmediate code word ⌝ }
+{
+    let test = Relations::from_code(code);
+    let rd = Register::at(word, RD_I);
+    let rs1 = Register::at(word, RS1);
+    let imm = Immediate::of(word);
+    Some(Instruction::TestImmediate { test, rd, rs1, imm })
+}
+
+fn branch(when: Condition, word: u32) -> Option<Instruction>
+    ensures { λ r. ⌜ r ≡ branches when word ⌝ }
+{
+    let rs1 = Register::at(word, RS1);
+    let imm = Immediate::of(word);
+    Some(Instruction::Branch { when, rs1, imm })
+}
+
+fn jump_register(link: bool, word: u32) -> Option<Instruction>
+    ensures { λ r. ⌜ r ≡ jumpsRegister link word ⌝ }
+{
+    let rs1 = Register::at(word, RS1);
+    Some(Instruction::JumpRegister { link, rs1 })
+}
+
+fn jump(link: bool, word: u32) -> Option<Instruction>
+    ensures { λ r. ⌜ r ≡ jumps link word ⌝ }
+{
+    let offset = Offset::of(word);
+    Some(Instruction::Jump { link, offset })
+}
+
+fn trap(word: u32) -> Option<Instruction>
+    ensures { λ r. ⌜ r ≡ traps word ⌝ }
+{
+    let offset = Offset::of(word);
+    Some(Instruction::Trap { offset })
+}
+
+fn shift_immediate(op: ShiftOp, word: u32) -> Option<Instruction>
+    ensures { λ r. ⌜ r ≡ shiftsImmediate op word ⌝ }
+{
+    let rd = Register::at(word, RD_R);
+    let rs1 = Register::at(word, RS1);
+    let sa = ShiftAmount::at(word, SA);
+    Some(Instruction::ShiftImmediate { op, rd, rs1, sa })
+}
+
+fn shift(op: ShiftOp, word: u32) -> Option<Instruction>
+    ensures { λ r. ⌜ r ≡ shifts op word ⌝ }
+{
+    let rd = Register::at(word, RD_R);
+    let rs1 = Register::at(word, RS1);
+    let rs2 = Register::at(word, RS2);
+    Some(Instruction::Shift { op, rd, rs1, rs2 })
+}
+
+fn read_special(word: u32) -> Option<Instruction>
+    ensures { λ r. ⌜ r ≡ readsSpecial word ⌝ }
+{
+    let special = SpecialRegister::from_number(bits(word, SA, 5))?;
+    let rd = Register::at(word, RD_R);
+    Some(Instruction::ReadSpecial { rd, special })
+}
+
+fn write_special(word: u32) -> Option<Instruction>
+    ensures { λ r. ⌜ r ≡ writesSpecial word ⌝ }
+{
+    let special = SpecialRegister::from_number(bits(word, SA, 5))?;
+    let rs1 = Register::at(word, RS1);
+    Some(Instruction::WriteSpecial { special, rs1 })
+}
+
+fn alu(op: AluOp, word: u32) -> Option<Instruction>
+    ensures { λ r. ⌜ r ≡ alus op word ⌝ }
+{
+    let rd = Register::at(word, RD_R);
+    let rs1 = Register::at(word, RS1);
+    let rs2 = Register::at(word, RS2);
+    Some(Instruction::Alu { op, rd, rs1, rs2 })
+}
+
+fn load_high(word: u32) -> Option<Instruction>
+    ensures { λ r. ⌜ r ≡ loadsHigh word ⌝ }
+{
+    let rd = Register::at(word, RD_R);
+    let rs2 = Register::at(word, RS2);
+    Some(Instruction::LoadHigh { rd, rs2 })
+}
+
+fn test(code: u32, word: u32) -> Option<Instruction>
+    ensures { λ r. ⌜ r ≡ tests code word ⌝ }
+{
+    let test = Relations::from_code(code);
+    let rd = Register::at(word, RD_R);
+    let rs1 = Register::at(word, RS1);
+    let rs2 = Register::at(word, RS2);
+    Some(Instruction::Test { test, rd, rs1, rs2 })
 }

@@ -6,7 +6,9 @@ ghost use Rattle.instruction.specs.Codes.{loadCode, storeCode, branchCode, alu
 ghost use Rattle.instruction.specs.Layout.{wordOf, placed, layout};
 ghost use Rattle.instruction.specs.Laws.{Reads, UnusedZero};
 ghost use Rattle.instruction.specs.Table.{decodedOf};
-
+use crate::field::Immediate;
+use crate::field::Offset;
+use crate::field::Register;
 use crate::instruction::Instruction;
 use crate::operation::AluOp;
 use crate::operation::Condition;
@@ -91,25 +93,31 @@ impl Relations {
     }
 }
 
-fn immediate_form(opcode: u32, rs1: u8, rd: u8, imm: u16) -> u32
-    requires { ⌜ opcode < 64 ⌝ ∗ ⌜ rs1 < 32 ⌝ ∗ ⌜ rd < 32 ⌝ }
-    ensures { λ r. ⌜ r ≡ opcode * 2 ^ 26 + rs1 * 2 ^ 21 + rd * 2 ^ 16 + imm ⌝ }
+// What stands in a field that is not used.
+const R0: Register = Register { index: 0 };
+
+const NO_IMM: Immediate = Immediate { bits: 0 };
+
+fn i_form(opcode: u32, rs1: Register, rd: Register, imm: Immediate) -> u32
+    requires { ⌜ opcode < 64 ⌝ }
+    ensures { λ r. ⌜ r ≡ opcode * 2 ^ 26 + rs1 .index * 2 ^ 21 + rd .index * 2 ^ 16 + imm .bits ⌝ }
 {
-    opcode << 26 | (rs1 as u32) << 21 | (rd as u32) << 16 | imm as u32
+    opcode << 26 | (rs1.index as u32) << 21 | (rd.index as u32) << 16 | imm.bits as u32
 }
 
-fn register_form(rs1: u8, rs2: u8, rd: u8, sa: u8, function: u32) -> u32
-    requires { ⌜ rs1 < 32 ⌝ ∗ ⌜ rs2 < 32 ⌝ ∗ ⌜ rd < 32 ⌝ ∗ ⌜ sa < 32 ⌝ ∗ ⌜ function < 64 ⌝ }
-    ensures { λ r. ⌜ r ≡ rs1 * 2 ^ 21 + rs2 * 2 ^ 16 + rd * 2 ^ 11 + sa * 2 ^ 6 + function ⌝ }
+fn r_form(rs1: Register, rs2: Register, rd: Register, sa: u8, function: u32) -> u32
+    requires { ⌜ sa < 32 ⌝ ∗ ⌜ function < 64 ⌝ }
+    ensures { λ r. ⌜ r ≡ rs1 .index * 2 ^ 21 + rs2 .index * 2 ^ 16 + rd .index * 2 ^ 11 + sa * 2 ^ 6 + function ⌝ }
 {
-    (rs1 as u32) << 21 | (rs2 as u32) << 16 | (rd as u32) << 11 | (sa as u32) << 6 | function
+    let registers = (rs1.index as u32) << 21 | (rs2.index as u32) << 16 | (rd.index as u32) << 11;
+    registers | (sa as u32) << 6 | function
 }
 
-fn jump_form(opcode: u32, offset: u32) -> u32
-    requires { ⌜ opcode < 64 ⌝ ∗ ⌜ offset < 2 ^ 26 ⌝ }
-    ensures { λ r. ⌜ r ≡ opcode * 2 ^ 26 + offset ⌝ }
+fn j_form(opcode: u32, offset: Offset) -> u32
+    requires { ⌜ opcode < 64 ⌝ }
+    ensures { λ r. ⌜ r ≡ opcode * 2 ^ 26 + offset .bits ⌝ }
 {
-    opcode << 26 | offset
+    opcode << 26 | offset.bits
 }
 
 // The word of an instruction, 0 in each field that it does not use.
@@ -119,41 +127,31 @@ pub fn encode(instruction: Instruction) -> u32
     ensures unused { λ r. ⌜ UnusedZero instruction r ⌝ }
     ensures back { λ r. ⌜ decodedOf r ≡ Some instruction ⌝ }
 {
-    word_of(instruction)
+    instruction.word()
 }
 
-fn word_of(instruction: Instruction) -> u32
-    ensures { λ r. ⌜ r ≡ placed (layout instruction) ⌝ }
-{
-    match instruction {
-        Instruction::Load { kind, rd, rs1, imm } => immediate_form(kind.opcode(), rs1.index, rd.index, imm.bits),
-        Instruction::Store { kind, rd, rs1, imm } => immediate_form(kind.opcode(), rs1.index, rd.index, imm.bits),
-        Instruction::AluImmediate { op, rd, rs1, imm } => {
-            immediate_form(0x08 + op.code(), rs1.index, rd.index, imm.bits)
-        }
-        Instruction::LoadHighImmediate { rd, imm } => immediate_form(0x0f, 0, rd.index, imm.bits),
-        Instruction::TestImmediate { relations, rd, rs1, imm } => {
-            immediate_form(0x18 + relations.code(), rs1.index, rd.index, imm.bits)
-        }
-        Instruction::Branch { condition, rs1, imm } => immediate_form(condition.opcode(), rs1.index, 0, imm.bits),
-        Instruction::JumpRegister { link, rs1 } => immediate_form(0x16 + link as u32, rs1.index, 0, 0),
-        Instruction::Jump { link, offset } => jump_form(0x02 + link as u32, offset.bits),
-        Instruction::Trap { offset } => jump_form(0x3e, offset.bits),
-        Instruction::ReturnFromException => jump_form(0x3f, 0),
-        Instruction::ShiftImmediate { op, rd, rs1, amount } => {
-            register_form(rs1.index, 0, rd.index, amount.bits, op.code())
-        }
-        Instruction::Shift { op, rd, rs1, rs2 } => {
-            register_form(rs1.index, rs2.index, rd.index, 0, 0x04 + op.code())
-        }
-        Instruction::ReadSpecial { rd, special } => register_form(0, 0, rd.index, special.number(), 0x10),
-        Instruction::WriteSpecial { special, rs1 } => register_form(rs1.index, 0, 0, special.number(), 0x11),
-        Instruction::Alu { op, rd, rs1, rs2 } => {
-            register_form(rs1.index, rs2.index, rd.index, 0, 0x20 + op.code())
-        }
-        Instruction::LoadHigh { rd, rs2 } => register_form(0, rs2.index, rd.index, 0, 0x27),
-        Instruction::Test { relations, rd, rs1, rs2 } => {
-            register_form(rs1.index, rs2.index, rd.index, 0, 0x28 + relations.code())
+impl Instruction {
+    fn word(self) -> u32
+        ensures { λ r. ⌜ r ≡ placed (layout self) ⌝ }
+    {
+        match self {
+            Self::Load { kind, rd, rs1, imm } => i_form(kind.opcode(), rs1, rd, imm),
+            Self::Store { kind, rd, rs1, imm } => i_form(kind.opcode(), rs1, rd, imm),
+            Self::AluImmediate { op, rd, rs1, imm } => i_form(0x08 + op.code(), rs1, rd, imm),
+            Self::LoadHighImmediate { rd, imm } => i_form(0x0f, R0, rd, imm),
+            Self::TestImmediate { test, rd, rs1, imm } => i_form(0x18 + test.code(), rs1, rd, imm),
+            Self::Branch { when, rs1, imm } => i_form(when.opcode(), rs1, R0, imm),
+            Self::JumpRegister { link, rs1 } => i_form(0x16 + link as u32, rs1, R0, NO_IMM),
+            Self::Jump { link, offset } => j_form(0x02 + link as u32, offset),
+            Self::Trap { offset } => j_form(0x3e, offset),
+            Self::ReturnFromException => j_form(0x3f, Offset { bits: 0 }),
+            Self::ShiftImmediate { op, rd, rs1, sa } => r_form(rs1, R0, rd, sa.bits, op.code()),
+            Self::Shift { op, rd, rs1, rs2 } => r_form(rs1, rs2, rd, 0, 0x04 + op.code()),
+            Self::ReadSpecial { rd, special } => r_form(R0, R0, rd, special.number(), 0x10),
+            Self::WriteSpecial { special, rs1 } => r_form(rs1, R0, R0, special.number(), 0x11),
+            Self::Alu { op, rd, rs1, rs2 } => r_form(rs1, rs2, rd, 0, 0x20 + op.code()),
+            Self::LoadHigh { rd, rs2 } => r_form(R0, rs2, rd, 0, 0x27),
+            Self::Test { test, rd, rs1, rs2 } => r_form(rs1, rs2, rd, 0, 0x28 + test.code()),
         }
     }
 }

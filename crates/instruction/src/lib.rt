@@ -3,6 +3,7 @@ mod decoder;
 mod encoder;
 mod field;
 mod instruction;
+mod notation;
 mod number;
 mod operation;
 mod worked;
@@ -14,6 +15,10 @@ pub use field::Offset;
 pub use field::Register;
 pub use field::ShiftAmount;
 pub use instruction::Instruction;
+pub use notation::ImmediateDisplay;
+pub use notation::InstructionDisplay;
+pub use notation::OffsetDisplay;
+pub use notation::RegisterDisplay;
 pub use number::FieldRefusal;
 pub use operation::AluOp;
 pub use operation::Condition;
@@ -23,3 +28,6 @@ pub use operation::ShiftOp;
 pub use operation::SpecialRegister;
 pub use operation::StoreKind;
 pub use worked::worked_words;
+
+#[cfg(test)]
+mod tests;

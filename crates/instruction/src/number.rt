@@ -2,9 +2,8 @@
 ghost use mathlib.Core.Path.{_≡_};
 ghost use Prim.Native.Nat.{ℕ, _<_, _/_, _%_, _^_};
 ghost use Rattle.instruction.specs.Codes.{relationsAt, specialOf, specialNumber};
-ghost use Rattle.instruction.specs.Fields.{Field, RS1, registerAt, amountAt, immediateOf, offsetOf};
+ghost use Rattle.instruction.specs.Fields.{registerAt, amountAt, immediateOf, offsetOf};
 ghost use Rattle.instruction.specs.Numbers.{refusalNumber, MadeFrom, SpecialMadeFrom};
-
 use crate::field::Immediate;
 use crate::field::Offset;
 use crate::field::Register;
@@ -42,7 +41,13 @@ impl Register {
     pub fn new(number: u32) -> Result<Register, FieldRefusal>
         ensures { λ r. ⌜ MadeFrom (λ made. made .index) (2 ^ 5) number r ⌝ }
     {
-        if number < 32 { Ok(Register { index: number as u8 }) } else { Err(FieldRefusal::OutOfRange) }
+        if number < 32 {
+            Ok(Register {
+                index: number as u8,
+            })
+        } else {
+            Err(FieldRefusal::OutOfRange)
+        }
     }
 
     // The register whose field begins at bit `low`.
@@ -50,7 +55,9 @@ impl Register {
         requires { ⌜ low < 32 ⌝ }
         ensures { λ r. ⌜ r ≡ registerAt (record { low = low; width = 5 }) word ⌝ }
     {
-        Register { index: bits(word, low, 5) as u8 }
+        Register {
+            index: bits(word, low, 5) as u8,
+        }
     }
 }
 
@@ -59,7 +66,11 @@ impl ShiftAmount {
     pub fn new(number: u32) -> Result<ShiftAmount, FieldRefusal>
         ensures { λ r. ⌜ MadeFrom (λ made. made .bits) (2 ^ 5) number r ⌝ }
     {
-        if number < 32 { Ok(ShiftAmount { bits: number as u8 }) } else { Err(FieldRefusal::OutOfRange) }
+        if number < 32 {
+            Ok(ShiftAmount { bits: number as u8 })
+        } else {
+            Err(FieldRefusal::OutOfRange)
+        }
     }
 
     // The shift amount whose field begins at bit `low`.
@@ -67,7 +78,9 @@ impl ShiftAmount {
         requires { ⌜ low < 32 ⌝ }
         ensures { λ r. ⌜ r ≡ amountAt (record { low = low; width = 5 }) word ⌝ }
     {
-        ShiftAmount { bits: bits(word, low, 5) as u8 }
+        ShiftAmount {
+            bits: bits(word, low, 5) as u8,
+        }
     }
 }
 
@@ -76,14 +89,22 @@ impl Immediate {
     pub fn new(number: u32) -> Result<Immediate, FieldRefusal>
         ensures { λ r. ⌜ MadeFrom (λ made. made .bits) (2 ^ 16) number r ⌝ }
     {
-        if number < 1 << 16 { Ok(Immediate { bits: number as u16 }) } else { Err(FieldRefusal::OutOfRange) }
+        if number < 1 << 16 {
+            Ok(Immediate {
+                bits: number as u16,
+            })
+        } else {
+            Err(FieldRefusal::OutOfRange)
+        }
     }
 
     // The immediate of a word.
     pub(crate) fn of(word: u32) -> Immediate
         ensures { λ r. ⌜ r ≡ immediateOf word ⌝ }
     {
-        Immediate { bits: bits(word, 0, 16) as u16 }
+        Immediate {
+            bits: bits(word, 0, 16) as u16,
+        }
     }
 }
 
@@ -92,14 +113,20 @@ impl Offset {
     pub fn new(number: u32) -> Result<Offset, FieldRefusal>
         ensures { λ r. ⌜ MadeFrom (λ made. made .bits) (2 ^ 26) number r ⌝ }
     {
-        if number < 1 << 26 { Ok(Offset { bits: number }) } else { Err(FieldRefusal::OutOfRange) }
+        if number < 1 << 26 {
+            Ok(Offset { bits: number })
+        } else {
+            Err(FieldRefusal::OutOfRange)
+        }
     }
 
     // The offset of a word.
     pub(crate) fn of(word: u32) -> Offset
         ensures { λ r. ⌜ r ≡ offsetOf word ⌝ }
     {
-        Offset { bits: bits(word, 0, 26) }
+        Offset {
+            bits: bits(word, 0, 26),
+        }
     }
 }
 

@@ -10,5 +10,5 @@ pub returns : need.returns
 unfolding decodedOf
 returns c = record {
   value = c .decode-opcode .ensures;
-  law = subst (Decides (c .args .word)) (sym (c .decode-opcode .ensures)) (decides (c .args .word))
+  law = subst (Decides (c .args .word)) (sym (c .decode-opcode .ensures)) (decides (c .args .word));
 }

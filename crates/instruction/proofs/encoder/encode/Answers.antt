@@ -10,10 +10,10 @@ pub returns : need.returns
 unfolding wordOf
 returns c =
     let i = c .args .instruction in
-    let e : c .word-of .result ≡ wordOf i = c .word-of .ensures in
+    let e : c .word .result ≡ wordOf i = c .word .ensures in
     record {
       value = e;
       reads = subst (λ (w : ℕ). Reads w i) (sym e) (own-reads i);
       unused = subst (λ (w : ℕ). UnusedZero i w) (sym e) (own-unused i);
-      back = ap decodedOf e ∙ own-decoded i
+      back = ap decodedOf e ∙ own-decoded i;
     }

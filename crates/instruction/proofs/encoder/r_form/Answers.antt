@@ -1,6 +1,6 @@
 use borrow.Author.Needs.{needs}
 use Rattle.instruction.proofs.Packing.{register-packed}
-use Rattle.instruction.proofs.encoder.register_form.Needs as need
+use Rattle.instruction.proofs.encoder.r_form.Needs as need
 
 pub returns : need.returns
 returns c = search (needs, register-packed)
