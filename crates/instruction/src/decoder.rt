@@ -17,16 +17,16 @@ use crate::operation::ShiftOp;
 use crate::operation::SpecialRegister;
 use crate::operation::StoreKind;
 
-// The lowest bit of each register field: RS1 stands in one place, RD by the form, and RS2 where the I form has RD.
-const RS1: u32 = 21;
+// The lowest bit of each field of five bits; RS2 of the R form stands where the I form has RD.
+const RS1_LOW: u32 = 21;
 
-const RD_I: u32 = 16;
+const RD_I_LOW: u32 = 16;
 
-const RS2: u32 = 16;
+const RS2_LOW: u32 = 16;
 
-const RD_R: u32 = 11;
+const RD_R_LOW: u32 = 11;
 
-const SA: u32 = 6;
+const SA_LOW: u32 = 6;
 
 // The instruction that `word` reads as, or none where it is illegal. Fields that the instruction does not use are ignored.
 pub fn decode(word: u32) -> Option<Instruction>
@@ -100,8 +100,8 @@ fn decode_function(word: u32) -> Option<Instruction>
 fn load(kind: LoadKind, word: u32) -> Option<Instruction>
     ensures { λ r. ⌜ r ≡ loads kind word ⌝ }
 {
-    let rd = Register::at(word, RD_I);
-    let rs1 = Register::at(word, RS1);
+    let rd = Register::at(word, RD_I_LOW);
+    let rs1 = Register::at(word, RS1_LOW);
     let imm = Immediate::of(word);
     Some(Instruction::Load { kind, rd, rs1, imm })
 }
@@ -109,8 +109,8 @@ fn load(kind: LoadKind, word: u32) -> Option<Instruction>
 fn store(kind: StoreKind, word: u32) -> Option<Instruction>
     ensures { λ r. ⌜ r ≡ stores kind word ⌝ }
 {
-    let rd = Register::at(word, RD_I);
-    let rs1 = Register::at(word, RS1);
+    let rd = Register::at(word, RD_I_LOW);
+    let rs1 = Register::at(word, RS1_LOW);
     let imm = Immediate::of(word);
     Some(Instruction::Store { kind, rd, rs1, imm })
 }
@@ -118,8 +118,8 @@ fn store(kind: StoreKind, word: u32) -> Option<Instruction>
 fn alu_immediate(op: AluOp, word: u32) -> Option<Instruction>
     ensures { λ r. ⌜ r ≡ alusImmediate op word ⌝ }
 {
-    let rd = Register::at(word, RD_I);
-    let rs1 = Register::at(word, RS1);
+    let rd = Register::at(word, RD_I_LOW);
+    let rs1 = Register::at(word, RS1_LOW);
     let imm = Immediate::of(word);
     Some(Instruction::AluImmediate { op, rd, rs1, imm })
 }
@@ -127,7 +127,7 @@ fn alu_immediate(op: AluOp, word: u32) -> Option<Instruction>
 fn load_high_immediate(word: u32) -> Option<Instruction>
     ensures { λ r. ⌜ r ≡ loadsHighImmediate word ⌝ }
 {
-    let rd = Register::at(word, RD_I);
+    let rd = Register::at(word, RD_I_LOW);
     let imm = Immediate::of(word);
     Some(Instruction::LoadHighImmediate { rd, imm })
 }
@@ -136,8 +136,8 @@ fn test_immediate(code: u32, word: u32) -> Option<Instruction>
     ensures { λ r. ⌜ r ≡ testsImmediate code word ⌝ }
 {
     let test = Relations::from_code(code);
-    let rd = Register::at(word, RD_I);
-    let rs1 = Register::at(word, RS1);
+    let rd = Register::at(word, RD_I_LOW);
+    let rs1 = Register::at(word, RS1_LOW);
     let imm = Immediate::of(word);
     Some(Instruction::TestImmediate { test, rd, rs1, imm })
 }
@@ -145,7 +145,7 @@ fn test_immediate(code: u32, word: u32) -> Option<Instruction>
 fn branch(when: Condition, word: u32) -> Option<Instruction>
     ensures { λ r. ⌜ r ≡ branches when word ⌝ }
 {
-    let rs1 = Register::at(word, RS1);
+    let rs1 = Register::at(word, RS1_LOW);
     let imm = Immediate::of(word);
     Some(Instruction::Branch { when, rs1, imm })
 }
@@ -153,7 +153,7 @@ fn branch(when: Condition, word: u32) -> Option<Instruction>
 fn jump_register(link: bool, word: u32) -> Option<Instruction>
     ensures { λ r. ⌜ r ≡ jumpsRegister link word ⌝ }
 {
-    let rs1 = Register::at(word, RS1);
+    let rs1 = Register::at(word, RS1_LOW);
     Some(Instruction::JumpRegister { link, rs1 })
 }
 
@@ -174,51 +174,51 @@ fn trap(word: u32) -> Option<Instruction>
 fn shift_immediate(op: ShiftOp, word: u32) -> Option<Instruction>
     ensures { λ r. ⌜ r ≡ shiftsImmediate op word ⌝ }
 {
-    let rd = Register::at(word, RD_R);
-    let rs1 = Register::at(word, RS1);
-    let sa = ShiftAmount::at(word, SA);
+    let rd = Register::at(word, RD_R_LOW);
+    let rs1 = Register::at(word, RS1_LOW);
+    let sa = ShiftAmount::at(word, SA_LOW);
     Some(Instruction::ShiftImmediate { op, rd, rs1, sa })
 }
 
 fn shift(op: ShiftOp, word: u32) -> Option<Instruction>
     ensures { λ r. ⌜ r ≡ shifts op word ⌝ }
 {
-    let rd = Register::at(word, RD_R);
-    let rs1 = Register::at(word, RS1);
-    let rs2 = Register::at(word, RS2);
+    let rd = Register::at(word, RD_R_LOW);
+    let rs1 = Register::at(word, RS1_LOW);
+    let rs2 = Register::at(word, RS2_LOW);
     Some(Instruction::Shift { op, rd, rs1, rs2 })
 }
 
 fn read_special(word: u32) -> Option<Instruction>
     ensures { λ r. ⌜ r ≡ readsSpecial word ⌝ }
 {
-    let special = SpecialRegister::from_number(bits(word, SA, 5))?;
-    let rd = Register::at(word, RD_R);
+    let special = SpecialRegister::from_number(bits(word, SA_LOW, 5))?;
+    let rd = Register::at(word, RD_R_LOW);
     Some(Instruction::ReadSpecial { rd, special })
 }
 
 fn write_special(word: u32) -> Option<Instruction>
     ensures { λ r. ⌜ r ≡ writesSpecial word ⌝ }
 {
-    let special = SpecialRegister::from_number(bits(word, SA, 5))?;
-    let rs1 = Register::at(word, RS1);
+    let special = SpecialRegister::from_number(bits(word, SA_LOW, 5))?;
+    let rs1 = Register::at(word, RS1_LOW);
     Some(Instruction::WriteSpecial { special, rs1 })
 }
 
 fn alu(op: AluOp, word: u32) -> Option<Instruction>
     ensures { λ r. ⌜ r ≡ alus op word ⌝ }
 {
-    let rd = Register::at(word, RD_R);
-    let rs1 = Register::at(word, RS1);
-    let rs2 = Register::at(word, RS2);
+    let rd = Register::at(word, RD_R_LOW);
+    let rs1 = Register::at(word, RS1_LOW);
+    let rs2 = Register::at(word, RS2_LOW);
     Some(Instruction::Alu { op, rd, rs1, rs2 })
 }
 
 fn load_high(word: u32) -> Option<Instruction>
     ensures { λ r. ⌜ r ≡ loadsHigh word ⌝ }
 {
-    let rd = Register::at(word, RD_R);
-    let rs2 = Register::at(word, RS2);
+    let rd = Register::at(word, RD_R_LOW);
+    let rs2 = Register::at(word, RS2_LOW);
     Some(Instruction::LoadHigh { rd, rs2 })
 }
 
@@ -226,8 +226,8 @@ fn test(code: u32, word: u32) -> Option<Instruction>
     ensures { λ r. ⌜ r ≡ tests code word ⌝ }
 {
     let test = Relations::from_code(code);
-    let rd = Register::at(word, RD_R);
-    let rs1 = Register::at(word, RS1);
-    let rs2 = Register::at(word, RS2);
+    let rd = Register::at(word, RD_R_LOW);
+    let rs1 = Register::at(word, RS1_LOW);
+    let rs2 = Register::at(word, RS2_LOW);
     Some(Instruction::Test { test, rd, rs1, rs2 })
 }
