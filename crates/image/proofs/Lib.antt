@@ -1,0 +1,5 @@
+pub mod Zeros
+pub mod Sums
+pub mod Order
+pub mod Walk
+pub mod Cover
