@@ -3,6 +3,7 @@ use mathlib.Core.List.{List}
 use mathlib.Core.Bool.{Bool, true, false}
 use mathlib.Core.Path.{_≡_}
 use Prim.Native.Nat.{ℕ, _+_, _<_, _≤_}
+use lib.ListN.{length}
 use Rattle.std.specs.declared.option.Option.{Option}
 use Rattle.std.specs.declared.option.Option.the-variants.{Some, None}
 use Rattle.std.specs.declared.result.Result.{Result}
@@ -13,7 +14,7 @@ use Rattle.image.specs.declared.Fault.the-variants.{Size}
 use Rattle.image.specs.declared.Refusal.{Refusal}
 use Rattle.image.specs.declared.block.Block.{Block}
 use Rattle.image.specs.declared.reader.Reader.{Reader}
-use Rattle.image.specs.Format.{blockCount, blockAt, kindByte, kindNumber, addressOf, payloadOf}
+use Rattle.image.specs.Format.{blockCount, blockAt, kindByte, kindNumber, countOf, addressOf, payloadOf}
 use Rattle.image.specs.Rules.{wrongSize, faultOf, faultAt, refusing}
 
 -- The parts of a reader: its image, the memories' ends, and the place of the next block.
@@ -32,6 +33,7 @@ pub record Holds (bytes : List ℕ) (at : ℕ) (block : Block) : Type 0 where
   pub kind-is : kindNumber (block .kind) ≡ kindByte bytes
   pub address-is : block .address ≡ addressOf bytes
   pub payload-is : block .payload .now ≡ payloadOf bytes
+  pub count-is : length (block .payload .now) ≡ countOf bytes
 
 -- A block read from its bytes, or the first rule that it breaks.
 abbrev pub Parsed : List ℕ → ℕ → Bool → Ends → Result Block Fault → Type 0

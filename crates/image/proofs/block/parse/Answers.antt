@@ -61,4 +61,4 @@ returns c =
     let e2 = c .if-wrong-address .ensures tt in
     let e3 = c .if-wrong-rest .ensures tt in
     let e4 = c .if-wrong-end .ensures tt in
-    (grind (arith, tells), record { placed = refl; kind-is = e0 .1; address-is = c .word-at-address .ensures; payload-is = search needs })
+    (grind (arith, tells), record { placed = refl; kind-is = e0 .1; address-is = c .word-at-address .ensures; payload-is = search needs; count-is = search needs })

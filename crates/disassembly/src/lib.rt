@@ -1,0 +1,11 @@
+// What an image holds, as rows for people: its blocks, the program words that it wrote as instructions, and how many data
+// bytes it wrote.
+mod cover;
+mod lister;
+mod rows;
+
+pub use lister::list;
+pub use rows::BlockRow;
+pub use rows::ListError;
+pub use rows::Listing;
+pub use rows::WordRow;
