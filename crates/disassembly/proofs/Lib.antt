@@ -1,2 +1,3 @@
 pub mod Covered
 pub mod Rowing
+pub mod Lines

@@ -2,7 +2,7 @@
 use mathlib.Core.List.{List, [], _∷_, _++_, append-nil}
 use mathlib.Core.Bool.{Bool, true, false, cond}
 use mathlib.Core.Path.{_≡_, _∙_, refl, sym, ap}
-use Prim.Native.Nat.{ℕ, _+_, _*_}
+use Prim.Native.Nat.{ℕ, _+_, _*_, _%_, _^_}
 use native.Mathlib.Nat.{add-zero}
 use native.Mathlib.Numerals.{add-one}
 use lib.ListN.{length, getD}
@@ -54,17 +54,17 @@ module _ (rows : List BlockRow) (words : List ℕ) where
   words-none = refl
 
   word : (n : ℕ)
-      → wordRows rows words (n + 1) ≡ wordRows rows words n ++ cond (covered Program 4 n rows) (record { address = 4 * n; word = getD words n 0 } ∷ []) []
+      → wordRows rows words (n + 1) ≡ wordRows rows words n ++ cond (covered Program 4 n rows) (record { address = 4 * n % 2 ^ 32; word = getD words n 0 } ∷ []) []
   unfolding wordRows
   word n = simp add-one
 
   pub word-written : (n : ℕ) → true ≡ covered Program 4 n rows
-      → wordRows rows words (n + 1) ≡ wordRows rows words n ++ record { address = 4 * n; word = getD words n 0 } ∷ []
-  word-written n e = word n ∙ ap (λ (b : Bool). wordRows rows words n ++ cond b (record { address = 4 * n; word = getD words n 0 } ∷ []) []) (sym e)
+      → wordRows rows words (n + 1) ≡ wordRows rows words n ++ record { address = 4 * n % 2 ^ 32; word = getD words n 0 } ∷ []
+  word-written n e = word n ∙ ap (λ (b : Bool). wordRows rows words n ++ cond b (record { address = 4 * n % 2 ^ 32; word = getD words n 0 } ∷ []) []) (sym e)
 
   pub word-left : (n : ℕ) → false ≡ covered Program 4 n rows → wordRows rows words (n + 1) ≡ wordRows rows words n
   word-left n e =
-      word n ∙ ap (λ (b : Bool). wordRows rows words n ++ cond b (record { address = 4 * n; word = getD words n 0 } ∷ []) []) (sym e)
+      word n ∙ ap (λ (b : Bool). wordRows rows words n ++ cond b (record { address = 4 * n % 2 ^ 32; word = getD words n 0 } ∷ []) []) (sym e)
       ∙ append-nil (wordRows rows words n)
 
 module _ (rows : List BlockRow) where

@@ -2,7 +2,7 @@
 use mathlib.Core.List.{List, [], _∷_, _++_}
 use mathlib.Core.Bool.{Bool, true, false, cond, _&&_, _||_}
 use mathlib.Core.Path.{_≡_}
-use Prim.Native.Nat.{ℕ, zero, suc, _+_, _*_, _/_}
+use Prim.Native.Nat.{ℕ, zero, suc, _+_, _*_, _/_, _%_, _^_}
 use lib.ListN.{length, getD}
 use lib.Dec.{eqb, ltb, leb}
 use Rattle.std.specs.Of.Vec.{vec-items}
@@ -30,11 +30,11 @@ kindOf byte = cond (eqb byte 1) Program (cond (eqb byte 2) Data End)
 -- the row of the block at a place
 abbrev pub blockRow : List ℕ → ℕ → BlockRow
 blockRow image place = record {
-    place = place;
-    kind = kindOf (kindByte (blockAt image place));
-    address = addressOf (blockAt image place);
-    count = countOf (blockAt image place)
-  }
+  place = place;
+  kind = kindOf (kindByte (blockAt image place));
+  address = addressOf (blockAt image place);
+  count = countOf (blockAt image place);
+}
 
 -- the rows of the first n blocks, in file order
 unfoldable pub blockRows : List ℕ → ℕ → List BlockRow
@@ -62,7 +62,7 @@ covered kind unit k (row ∷ rows) = covers kind unit k row || covered kind unit
 unfoldable pub wordRows : List BlockRow → List ℕ → ℕ → List WordRow
 wordRows rows words zero = []
 wordRows rows words (suc n) =
-    wordRows rows words n ++ cond (covered Program 4 n rows) (record { address = 4 * n; word = getD words n 0 } ∷ []) []
+    wordRows rows words n ++ cond (covered Program 4 n rows) (record { address = 4 * n % 2 ^ 32; word = getD words n 0 } ∷ []) []
 
 -- how many of the first n data bytes are covered
 unfoldable pub coveredBytes : List BlockRow → ℕ → ℕ

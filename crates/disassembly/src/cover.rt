@@ -5,7 +5,6 @@ ghost use lib.Dec.{eqb};
 ghost use Rattle.image.specs.Format.{kindNumber};
 ghost use Rattle.image.specs.declared.Kind.the-variants.{Program, Data};
 ghost use Rattle.disassembly.specs.Rows.{covers, covered, coveredBytes};
-
 use crate::rows::BlockRow;
 use image::Kind;
 

@@ -3,9 +3,12 @@
 mod cover;
 mod lister;
 mod rows;
+mod text;
 
 pub use lister::list;
 pub use rows::BlockRow;
 pub use rows::ListError;
 pub use rows::Listing;
 pub use rows::WordRow;
+pub use text::BlockRowDisplay;
+pub use text::WordRowDisplay;

@@ -5,7 +5,6 @@ ghost use lib.ListN.{length};
 ghost use Rattle.std.specs.Of.Vec.{vec-items, vec-cap};
 ghost use mathlib.Core.List.{[]};
 ghost use Rattle.disassembly.specs.Rows.{wordRows, BlocksListed, Listed};
-
 use crate::cover::covered_bytes;
 use crate::cover::is_covered;
 use crate::rows::BlockRow;
@@ -21,6 +20,9 @@ use image::Kind;
 use image::Reader;
 use image::load;
 use std::alloc::Global;
+
+// Addresses have 32 bits.
+const ADDRESSES: usize = 1 << 32;
 
 // Loads an image into the program words and the data bytes, and lists it. A refusal and want of memory change nothing.
 pub fn list(
@@ -79,7 +81,7 @@ fn word_rows(words: &mut Vec<WordRow>, blocks: &[BlockRow], program: &[u32])
     for k in 0..program.len() {
         if is_covered(blocks, Kind::Program, 4, k) {
             words.push_reserved(WordRow {
-                address: 4 * k,
+                address: (4 * k % ADDRESSES) as u32,
                 word: program[k],
             });
         }

@@ -1,7 +1,6 @@
 // The rows of a listing.
 ghost use mathlib.Core.Path.{_≡_};
 ghost use Rattle.disassembly.specs.declared.rows.ListError.the-variants.{Refused, OutOfMemory};
-
 use image::Kind;
 use image::Refusal;
 use std::alloc::AllocError;
@@ -15,10 +14,10 @@ pub struct BlockRow {
     pub count: usize,
 }
 
-// A program word that a block wrote, and its address in bytes.
+// A program word that a block wrote, and its address in bytes, which has 32 bits.
 #[derive(Clone, Copy)]
 pub struct WordRow {
-    pub address: usize,
+    pub address: u32,
     pub word: u32,
 }
 

@@ -1,9 +1,12 @@
 -- The rules of an image: what breaks each, in which order they are looked at, and which refusal an image gets.
-use mathlib.Core.List.{List, [], _∷_}
+use mathlib.Core.List.{List, [], _∷_, _++_}
 use mathlib.Core.Bool.{Bool, cond, not, _&&_, _||_}
 use Prim.Native.Nat.{ℕ, zero, suc, _+_, _%_}
+use lib.Chars.{codes}
 use lib.ListN.{length}
 use lib.Dec.{eqb, ltb}
+use Rattle.std.specs.Options.{mapped}
+use Rattle.std.specs.Written.{decimal}
 use Rattle.std.specs.declared.option.Option.{Option}
 use Rattle.std.specs.declared.option.Option.the-variants.{Some, None}
 use Rattle.std.specs.declared.result.Result.{Result}
@@ -117,3 +120,19 @@ firstRefusal image ends = cond (wrongSize image) (refusing 0 (Some Size)) (refus
 abbrev pub refusalIn : {T : Type 0} → Result T Refusal → Option Refusal
 refusalIn (Ok _) = None
 refusalIn (Err r) = Some r
+
+-- A refusal as it is told: its number, and the block that it names.
+abbrev pub told : Refusal → ℕ × ℕ
+told r = (faultNumber (r .fault), r .block)
+
+-- What an answer tells: nothing, or a refusal's number and block.
+abbrev pub toldBy : {T : Type 0} → Result T Refusal → Option (ℕ × ℕ)
+toldBy answer = mapped told (refusalIn answer)
+
+-- What the image should be told.
+abbrev pub toldOf : List ℕ → Ends → Option (ℕ × ℕ)
+toldOf image ends = mapped told (firstRefusal image ends)
+
+-- The line for people: refused N block B.
+abbrev pub refusalText : Refusal → List ℕ
+refusalText r = codes "refused " ++ (decimal (told r .0) ++ (codes " block " ++ decimal (told r .1)))

@@ -8,11 +8,14 @@ ghost use Rattle.image.specs.Rules.{faultNumber};
 
 mod block;
 mod bytes;
+mod display;
 mod loader;
 mod reader;
 
 pub use block::Block;
+pub use display::RefusalDisplay;
 pub use loader::load;
+pub use reader::IMAGE_MAX;
 pub use reader::Reader;
 pub use reader::check;
 

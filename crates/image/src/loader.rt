@@ -4,7 +4,7 @@ ghost use Prim.Native.Nat.{_+_, _/_, _≤_};
 ghost use lib.ListN.{length};
 ghost use Rattle.std.specs.declared.option.Option.the-variants.{None};
 ghost use Rattle.image.specs.Format.{kindNumber};
-ghost use Rattle.image.specs.Rules.{firstRefusal};
+ghost use Rattle.image.specs.Rules.{firstRefusal, toldBy, toldOf};
 ghost use Rattle.image.specs.Load.{putWords, putBytes, wordsWith, bytesWith, Room, endsOf, Loaded};
 ghost use Rattle.image.specs.Laws.{Accepted, LoadLaw};
 use crate::Ends;
@@ -17,6 +17,7 @@ use crate::reader::check;
 
 // Puts each block into its memory, in file order. A refused image changes nothing.
 pub fn load(image: &[u8], program: &mut [u32], data: &mut [u8]) -> Result<(), Refusal>
+    ensures told { λ r. ⌜ toldBy r ≡ toldOf (now (image .entry)) (endsOf (now (program .entry)) (now («data» .entry))) ⌝ }
     ensures answer { λ r. ⌜ Loaded (now (image .entry)) (now (program .entry)) (now («data» .entry)) r (now (program .exit)) (now («data» .exit)) ⌝ }
     ensures law { λ r. ⌜ LoadLaw (now (image .entry)) (now (program .entry)) (now («data» .entry)) r (now (program .exit)) (now («data» .exit)) ⌝ }
 {

@@ -1,6 +1,6 @@
 // The blocks of an image, one after the other.
 ghost use mathlib.Core.Path.{_≡_};
-ghost use Rattle.image.specs.Rules.{firstRefusal, refusalIn};
+ghost use Rattle.image.specs.Rules.{firstRefusal, refusalIn, toldBy, toldOf};
 ghost use Rattle.image.specs.Reading.{Opened, Stepped};
 ghost use Rattle.image.specs.Laws.{Judged};
 use crate::Ends;
@@ -11,7 +11,7 @@ use crate::block::parse;
 use crate::bytes::BLOCK;
 
 // The most bytes that an image may have.
-const IMAGE_MAX: usize = 65536;
+pub const IMAGE_MAX: usize = 65536;
 
 // An image of a right size, and how far it is read.
 #[derive(Drop)]
@@ -66,6 +66,7 @@ impl<'a> Reader<'a> {
 
 // The whole image: the first refusal, if there is one.
 pub fn check(image: &[u8], ends: Ends) -> Result<(), Refusal>
+    ensures told { λ r. ⌜ toldBy r ≡ toldOf (now (image .entry)) ends ⌝ }
     ensures answer { λ r. ⌜ refusalIn r ≡ firstRefusal (now (image .entry)) ends ⌝ }
     ensures law { λ r. ⌜ Judged (now (image .entry)) ends r ⌝ }
 {

@@ -10,5 +10,6 @@ loop-k-holds c = search (needs, bytes-none)
 pub loop-k-again : need.loop-k-again
 loop-k-again c =
     elim (c .if-is-covered .came) [
-      then-is-covered w ↦ let m = byte-written (c .args .rows .now) (c .loop-k .k) (w .if-is-covered .ensures tt) in (omega (arith, w .count-is), omega (arith, w .count-is))
-    | else-is-covered w ↦ let m = byte-left (c .args .rows .now) (c .loop-k .k) (w .if-is-covered .ensures tt) in (omega (arith, w .count-is), omega (arith, w .count-is)) ]
+      | then-is-covered w ↦ let m = byte-written (c .args .rows .now) (c .loop-k .k) (w .if-is-covered .ensures tt) in (omega (arith, w .count-is), omega (arith, w .count-is))
+      | else-is-covered w ↦ let m = byte-left (c .args .rows .now) (c .loop-k .k) (w .if-is-covered .ensures tt) in (omega (arith, w .count-is), omega (arith, w .count-is))
+    ]

@@ -11,9 +11,10 @@ pub loop-rows-holds : need.loop-rows-holds
 loop-rows-holds c =
     let image = c .args .image .now in
     let s = c .in-Continue-reader .reader in
-    let o = c .in-Continue-reader .ensures tt in
-    (walk-start image (readerEnds s) s (subst (λ e. OpenedAt image e s) (sym (o .against)) o),
-     c .new-rows .ensures .items ∙ sym (blocks-none image _ (o .at-first)))
+    let o = c .in-Continue-reader .ensures tt in (
+      walk-start image (readerEnds s) s (subst (λ e. OpenedAt image e s) (sym (o .against)) o),
+      c .new-rows .ensures .items ∙ sym (blocks-none image _ (o .at-first)),
+    )
 
 pub returns-in-Break-block : need.returns-in-Break-block
 returns-in-Break-block c =
@@ -31,9 +32,10 @@ loop-rows-again c =
     let t = c .next .last .self in
     let b = c .in-Some .block in
     let d = c .in-Continue-block .ensures tt in
-    let g = walk-got image ends s t (c .loop-rows .inv .0) (c .in-Continue-block .field-0) b (c .in-Some .is) d in
-    (walk-more image ends s t (c .loop-rows .inv .0) (c .in-Continue-block .field-0) b (c .in-Some .is) d,
-     blocks-more image (readerPlace s) (readerPlace t) b (g .holds) (g .next-place) _ _ _ (c .loop-rows .inv .1) (c .in-Continue-push .ensures tt .items) (c .row-of .ensures))
+    let g = walk-got image ends s t (c .loop-rows .inv .0) (c .in-Continue-block .field-0) b (c .in-Some .is) d in (
+      walk-more image ends s t (c .loop-rows .inv .0) (c .in-Continue-block .field-0) b (c .in-Some .is) d,
+      blocks-more image (readerPlace s) (readerPlace t) b (g .holds) (g .next-place) _ _ _ (c .loop-rows .inv .1) (c .in-Continue-push .ensures tt .items) (c .row-of .ensures),
+    )
 
 pub returns : need.returns
 returns c =

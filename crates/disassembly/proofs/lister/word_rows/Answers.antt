@@ -15,14 +15,15 @@ loop-k-holds c =
 pub loop-k-again : need.loop-k-again
 loop-k-again c =
     elim (c .if-is-covered .came) [
-      then-is-covered w ↦
-        let m = word-written (c .args .blocks .now) (c .args .program .now) (c .loop-k .k) (w .if-is-covered .ensures tt) in
-        let p = w .push-reserved .ensures in
-        let i = c .loop-k .inv .0 in
-        let e = ap vec-items (w .words-is) in
-        (cc, omega (arith, ap vec-len (w .words-is), p .len), omega (arith, ap vec-cap (w .words-is), p .capacity))
-    | else-is-covered w ↦
-        let m = word-left (c .args .blocks .now) (c .args .program .now) (c .loop-k .k) (w .if-is-covered .ensures tt) in
-        let i = c .loop-k .inv .0 in
-        let e = ap vec-items (w .words-is) in
-        (cc, omega (arith, ap vec-len (w .words-is)), omega (arith, ap vec-cap (w .words-is))) ]
+      | then-is-covered w ↦
+          let m = word-written (c .args .blocks .now) (c .args .program .now) (c .loop-k .k) (w .if-is-covered .ensures tt) in
+          let p = w .push-reserved .ensures in
+          let i = c .loop-k .inv .0 in
+          let e = ap vec-items (w .words-is) in
+          (cc, omega (arith, ap vec-len (w .words-is), p .len), omega (arith, ap vec-cap (w .words-is), p .capacity))
+      | else-is-covered w ↦
+          let m = word-left (c .args .blocks .now) (c .args .program .now) (c .loop-k .k) (w .if-is-covered .ensures tt) in
+          let i = c .loop-k .inv .0 in
+          let e = ap vec-items (w .words-is) in
+          (cc, omega (arith, ap vec-len (w .words-is)), omega (arith, ap vec-cap (w .words-is)))
+    ]

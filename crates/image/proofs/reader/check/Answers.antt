@@ -1,5 +1,7 @@
-use mathlib.Core.Path.{_≡_, sym, subst}
+use mathlib.Core.Path.{_≡_, sym, ap, subst}
 use Rattle.std.proofs.shelf.Results.{err-from-errBy}
+use Rattle.std.specs.Options.{mapped}
+use Rattle.image.specs.Rules.{told}
 use Rattle.image.proofs.Walk.{Walked, walk-done, walk-refused}
 use Rattle.image.proofs.reader.check.Needs as need
 
@@ -10,7 +12,7 @@ returns-in-Break--block c =
     let against : c .in-Continue-reader .reader .ends ≡ c .args .ends = cc in
     let here : Walked (c .args .image .now) (c .args .ends) (c .loop-block .reader) = subst (λ e. Walked (c .args .image .now) e (c .loop-block .reader)) against (c .loop-block .inv) in
     let w = walk-refused (c .args .image .now) (c .args .ends) (c .loop-block .reader) (c .next .last .self) here (c .in-Break--block .field-0 .0) (c .in-Break--block .ensures tt) in
-    rw (p .1, p .2) (record { answer = sym (w .0); law = w .1 })
+    rw (p .1, p .2) (record { told = ap (mapped told) (sym (w .0)); answer = sym (w .0); law = w .1 })
 
 pub returns : need.returns
 returns c =
@@ -18,4 +20,4 @@ returns c =
     let against : c .in-Continue-reader .reader .ends ≡ c .args .ends = cc in
     let here : Walked (c .args .image .now) (c .args .ends) (c .loop-block .reader) = subst (λ e. Walked (c .args .image .now) e (c .loop-block .reader)) against (c .loop-block .inv) in
     let w = walk-done (c .args .image .now) (c .args .ends) (c .loop-block .reader) (c .next .last .self) here (c .in-Continue--block .field-0) (c .in-rest .is) (c .in-Continue--block .ensures tt) in
-    record { answer = sym (w .0); law = w .1 }
+    record { told = ap (mapped told) (sym (w .0)); answer = sym (w .0); law = w .1 }
