@@ -1,3 +1,4 @@
 pub mod Covered
 pub mod Rowing
 pub mod Lines
+pub mod Law

@@ -4,6 +4,7 @@ ghost use Prim.Native.Nat.{_≤_};
 ghost use lib.ListN.{length};
 ghost use Rattle.std.specs.Of.Vec.{vec-items, vec-cap};
 ghost use mathlib.Core.List.{[]};
+ghost use Rattle.disassembly.specs.Laws.{ListingLaw};
 ghost use Rattle.disassembly.specs.Rows.{wordRows, BlocksListed, Listed};
 use crate::cover::covered_bytes;
 use crate::cover::is_covered;
@@ -31,7 +32,8 @@ pub fn list(
     program: &mut [u32],
     data: &mut [u8],
 ) -> Result<Listing, ListError>
-    ensures { λ r. ⌜ Listed (now (image .entry)) (now (program .entry)) (now («data» .entry)) r (now (program .exit)) (now («data» .exit)) ⌝ }
+    ensures law { λ r. ⌜ ListingLaw (now (image .entry)) (now (program .exit)) r ⌝ }
+    ensures answer { λ r. ⌜ Listed (now (image .entry)) (now (program .entry)) (now («data» .entry)) r (now (program .exit)) (now («data» .exit)) ⌝ }
 {
     let ends = Ends {
         program: 4 * program.len(),
