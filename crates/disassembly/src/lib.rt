@@ -12,3 +12,6 @@ pub use rows::Listing;
 pub use rows::WordRow;
 pub use text::BlockRowDisplay;
 pub use text::WordRowDisplay;
+
+#[cfg(test)]
+mod tests;
