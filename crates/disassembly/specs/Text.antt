@@ -9,9 +9,9 @@ use Rattle.std.specs.declared.option.Option.{Option}
 use Rattle.std.specs.declared.option.Option.the-variants.{Some, None}
 use Rattle.image.specs.declared.Kind.{Kind}
 use Rattle.image.specs.declared.Kind.the-variants.{Program, Data, End}
-use Rattle.instruction.specs.Notation.{textOf, notationOf}
 use Rattle.instruction.specs.Table.{decodedOf}
 use Rattle.instruction.specs.declared.instruction.Instruction.{Instruction}
+use Rattle.notation.specs.Notation.{textOf, notationOf}
 use Rattle.disassembly.specs.declared.rows.BlockRow.{BlockRow}
 use Rattle.disassembly.specs.declared.rows.WordRow.{WordRow}
 use Rattle.disassembly.specs.declared.rows.Listing.{Listing}

@@ -10,8 +10,9 @@ use crate::rows::BlockRow;
 use crate::rows::Listing;
 use crate::rows::WordRow;
 use image::Kind;
-use instruction::InstructionDisplay;
 use instruction::decode;
+use notation::Assembly;
+use notation::AssemblyDisplay;
 use std::alloc::Global;
 use std::fmt;
 
@@ -102,7 +103,8 @@ pub impl fmt::Display for WordRow as WordRowDisplay {
         let Some(instruction) = decode(self.word) else {
             return write!(f, "{address} {word} illegal");
         };
-        write!(f, "{address} {word} {instruction}")
+        let text = Assembly(instruction);
+        write!(f, "{address} {word} {text}")
     }
 }
 

@@ -1,5 +1,6 @@
 // Tries images, most of them damaged. Commands, one to a line: `new N` starts an image of N zero bytes, `set OFFSET BYTES`
-// writes bytes given in hexadecimal, `sum BLOCK` recomputes a block's check, and `try` loads the image into cleared memories
+// writes bytes given in hexadecimal, `sum BLOCK` recomputes a block's check, `room WORDS BYTES` gives the memories
+// another length, and `try` loads the image into cleared memories
 // and prints the answer. What it must print was worked out by another program (vectors/images.py).
 use image::RefusalDisplay;
 use image::load;
@@ -49,6 +50,10 @@ impl Bench {
                 &mut self.image,
                 words.next().unwrap_or("").parse::<usize>()?,
             ),
+            "room" => {
+                self.program = vec![in heap; 0; words.next().unwrap_or("").parse::<usize>()?]?;
+                self.data = vec![in heap; 0; words.next().unwrap_or("").parse::<usize>()?]?;
+            }
             "try" => self.try_image()?,
             _ => return Err("no such command".into()),
         }

@@ -5,4 +5,3 @@ pub mod Layout
 pub mod Laws
 pub mod Numbers
 pub mod Worked
-pub mod Notation

@@ -2,7 +2,6 @@
 use crate::FieldRefusal;
 use crate::Immediate;
 use crate::Instruction;
-use crate::InstructionDisplay;
 use crate::Offset;
 use crate::Register;
 use crate::ShiftAmount;
@@ -31,15 +30,6 @@ fn unused_bits_are_written_as_zero() -> Result<(), Fail> {
         return Err(Fail::new("any word with the opcode of rfe is rfe"));
     };
     check(encode(instruction) == 0xfc000000)
-}
-
-#[test]
-fn text_is_the_assembly_notation(rt: LibcRuntime) -> Result<(), Fail> {
-    let Some(branch) = decode(0x1060fff8) else {
-        return Err(Fail::new("0x1060fff8 is a branch"));
-    };
-    let text = format!(rt.alloc(), "{branch}")?;
-    check(text.as_str() == "beqz r3, -8")
 }
 
 fn refusal_of<T: Drop>(made: Result<T, FieldRefusal>) -> u8 {

@@ -1,9 +1,10 @@
 // Reads words, eight hexadecimal digits to a line, and prints of each the word itself, the word that its instruction is
 // written as, and the instruction's text; or that it is illegal. What it must print was worked out by another program
 // (vectors/words.py).
-use instruction::InstructionDisplay;
 use instruction::decode;
 use instruction::encode;
+use notation::Assembly;
+use notation::AssemblyDisplay;
 use std::error::AnyError;
 use std::fmt;
 use std::io::BufRead;
@@ -28,5 +29,6 @@ fn write_line(text: &mut String, word: u32) -> fmt::Result {
         return writeln!(text, "{word:08x} illegal");
     };
     let back = encode(instruction);
-    writeln!(text, "{word:08x} {back:08x} {instruction}")
+    let shown = Assembly(instruction);
+    writeln!(text, "{word:08x} {back:08x} {shown}")
 }
