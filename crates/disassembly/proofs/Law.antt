@@ -15,7 +15,7 @@ use Rattle.image.specs.Format.{blockCount, blockAt, kindByte, kindNumber, addre
 use Rattle.image.specs.Laws.{CoversWord, CoversByte}
 use Rattle.image.specs.declared.Kind.{Kind}
 use Rattle.image.specs.declared.Kind.the-variants.{Program, Data, End}
-use Rattle.disassembly.specs.Laws.{Covered, Shows, ShowWritten, CountsWritten}
+use Rattle.disassembly.specs.Laws.{Covered, ShowsWord, ShowWritten, CountsWritten}
 use Rattle.disassembly.specs.Rows.{kindOf, blockRow, blockRows, covers, covered, wordRows}
 use Rattle.disassembly.specs.declared.rows.BlockRow.{BlockRow}
 use Rattle.disassembly.specs.declared.rows.WordRow.{WordRow}
@@ -181,7 +181,7 @@ module _ (rows : List BlockRow) (words : List ℕ) where
 
 -- the law of a listing
 
-shows : (words : List ℕ) (k : ℕ) (row : WordRow) → row ≡ rowAt [] words k → Shows words k row
+shows : (words : List ℕ) (k : ℕ) (row : WordRow) → row ≡ rowAt [] words k → ShowsWord words k row
 shows words k row e = record { address-is = ap (λ (x : WordRow). x .address) e; word-is = ap (λ (x : WordRow). x .word) e }
 
 pub shows-written : (image words : List ℕ) → ShowWritten image words (wordRows (blockRows image (blockCount image)) words (length words))

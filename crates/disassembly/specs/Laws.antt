@@ -21,15 +21,15 @@ abbrev pub Covered : (List ℕ → ℕ → Type 0) → List ℕ → ℕ → Type
 Covered Covers image k = (i : ℕ) × ((i < blockCount image) × Covers (blockAt image i) k)
 
 -- a row shows the word k of the program memory
-pub record Shows (program : List ℕ) (k : ℕ) (row : WordRow) : Type 0 where
+pub record ShowsWord (program : List ℕ) (k : ℕ) (row : WordRow) : Type 0 where
   pub address-is : row .address ≡ 4 * k % 2 ^ 32
   pub word-is : row .word ≡ getD program k 0
 
 -- the rows show the covered words, all of them and only them, in address order
 pub record ShowWritten (image program : List ℕ) (rows : List WordRow) : Type 0 where
   pub only : (j : ℕ) (d : WordRow) → j < length rows
-      → (k : ℕ) × ((k < length program) × (Covered CoversWord image k × Shows program k (getD rows j d)))
-  pub every : (k : ℕ) → k < length program → Covered CoversWord image k → (j : ℕ) × ((j < length rows) × ((d : WordRow) → Shows program k (getD rows j d)))
+      → (k : ℕ) × ((k < length program) × (Covered CoversWord image k × ShowsWord program k (getD rows j d)))
+  pub every : (k : ℕ) → k < length program → Covered CoversWord image k → (j : ℕ) × ((j < length rows) × ((d : WordRow) → ShowsWord program k (getD rows j d)))
   pub in-order : length program ≤ 2 ^ 30 → (j : ℕ) (d : WordRow) → j + 1 < length rows → getD rows j d .address < getD rows (j + 1) d .address
 
 -- the bytes that are counted are the covered ones

@@ -2,10 +2,14 @@
 // bytes it wrote.
 mod cover;
 mod lister;
+mod printed;
 mod rows;
 mod text;
 
 pub use lister::list;
+pub use printed::DATA_BYTES;
+pub use printed::PROGRAM_WORDS;
+pub use printed::listing_text;
 pub use rows::BlockRow;
 pub use rows::ListError;
 pub use rows::Listing;

@@ -1,6 +1,7 @@
 // An example of a listing, and of a refusal.
 use crate::ListError;
 use crate::list;
+use crate::listing_text;
 use std::test::*;
 
 // Two program words at address 8, then the second of them again, and the end.
@@ -26,6 +27,12 @@ fn lists_what_a_block_wrote(rt: LibcRuntime) -> Result<(), Fail> {
         text.as_str()
             == "block 0 program address 8 count 8\nblock 1 program address 12 count 4\nblock 2 end address 0 count 0\n00000008 fc000000 rfe\n0000000c 00211020 add r2, r1, r1\n0\n",
     )
+}
+
+#[test]
+fn a_refusal_is_one_line(rt: LibcRuntime) -> Result<(), Fail> {
+    let text = listing_text(rt.alloc(), &[])?;
+    check(text.as_str() == "refused 3 block 0\n")
 }
 
 #[test]
