@@ -11,14 +11,18 @@ use lib.ListN.{length, getD}
 use Rattle.std.proofs.shelf.Lists.{getD-append-left, getD-push, length-push}
 use Rattle.std.proofs.shelf.Tests.{cases-eq, cases-lt}
 use Rattle.std.proofs.shelf.Ways.{tells}
+use Rattle.std.specs.declared.result.Result.{Result}
+use Rattle.std.specs.declared.result.Result.the-variants.{Ok, Err}
 use Rattle.image.specs.Format.{blockCount, blockAt, kindByte, kindNumber, addressOf, countOf}
 use Rattle.image.specs.Laws.{CoversWord, CoversByte}
 use Rattle.image.specs.declared.Kind.{Kind}
 use Rattle.image.specs.declared.Kind.the-variants.{Program, Data, End}
-use Rattle.disassembly.specs.Laws.{Covered, ShowsWord, ShowWritten, CountsWritten}
-use Rattle.disassembly.specs.Rows.{kindOf, blockRow, blockRows, covers, covered, wordRows}
+use Rattle.disassembly.specs.Laws.{Covered, ShowsWord, ShowWritten, CountsWritten, ListingLaw}
+use Rattle.disassembly.specs.Rows.{kindOf, blockRow, blockRows, covers, covered, wordRows, Listed}
 use Rattle.disassembly.specs.declared.rows.BlockRow.{BlockRow}
 use Rattle.disassembly.specs.declared.rows.WordRow.{WordRow}
+use Rattle.disassembly.specs.declared.rows.Listing.{Listing}
+use Rattle.disassembly.specs.declared.rows.ListError.{ListError}
 
 -- one block's row covers what the block covers
 
@@ -184,7 +188,7 @@ module _ (rows : List BlockRow) (words : List ℕ) where
 shows : (words : List ℕ) (k : ℕ) (row : WordRow) → row ≡ rowAt [] words k → ShowsWord words k row
 shows words k row e = record { address-is = ap (λ (x : WordRow). x .address) e; word-is = ap (λ (x : WordRow). x .word) e }
 
-pub shows-written : (image words : List ℕ) → ShowWritten image words (wordRows (blockRows image (blockCount image)) words (length words))
+shows-written : (image words : List ℕ) → ShowWritten image words (wordRows (blockRows image (blockCount image)) words (length words))
 shows-written image words =
     let blocks = blockRows image (blockCount image) in
     let n = length words in
@@ -199,8 +203,17 @@ shows-written image words =
       in-order = λ small. rows-ordered blocks words n small;
     }
 
-pub counts-written : (image : List ℕ) → CountsWritten image (blockRows image (blockCount image))
+counts-written : (image : List ℕ) → CountsWritten image (blockRows image (blockCount image))
 counts-written image k = (
   λ e. let c = one-covers Data 1 k image (blockCount image) e in (c .0, (c .1 .0, byte-covers image (c .0) k (c .1 .1))),
   λ c. covers-one Data 1 k image (blockCount image) (c .0) (c .1 .0) (covers-byte image (c .0) k (c .1 .1)),
 )
+
+-- whatever is listed keeps the law
+pub listed-law : (image program bytes program′ bytes′ : List ℕ) (answer : Result Listing ListError)
+    → Listed image program bytes answer program′ bytes′ → ListingLaw image program′ answer
+listed-law image program bytes program′ bytes′ (Ok listing) l = (
+  subst (ShowWritten image program′) (sym (l .1 .words-are)) (shows-written image program′),
+  subst (CountsWritten image) (sym (l .1 .blocks-are)) (counts-written image),
+)
+listed-law image program bytes program′ bytes′ (Err error) l = tt

@@ -35,6 +35,17 @@ pub fn list(
     ensures law { λ r. ⌜ ListingLaw (now (image .entry)) (now (program .exit)) r ⌝ }
     ensures answer { λ r. ⌜ Listed (now (image .entry)) (now (program .entry)) (now («data» .entry)) r (now (program .exit)) (now («data» .exit)) ⌝ }
 {
+    load_and_list(heap, image, program, data)
+}
+
+fn load_and_list(
+    heap: Global,
+    image: &[u8],
+    program: &mut [u32],
+    data: &mut [u8],
+) -> Result<Listing, ListError>
+    ensures { λ r. ⌜ Listed (now (image .entry)) (now (program .entry)) (now («data» .entry)) r (now (program .exit)) (now («data» .exit)) ⌝ }
+{
     let ends = Ends {
         program: 4 * program.len(),
         data: data.len(),
