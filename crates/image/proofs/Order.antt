@@ -125,6 +125,7 @@ module _ (image : List ℕ) (ends : Ends) where
             first-rule = before (breaks image ends i) f sized e;
             first-block = λ j k. no-rule j (h j k);
             size-at-0 = λ q. absurd (no-size (breaks image ends i) f e q);
+            sized = λ _. sized;
             within = λ _. l;
           },
         )
@@ -137,6 +138,7 @@ module _ (image : List ℕ) (ends : Ends) where
       first-rule = λ rule h. absurd (first-number rule h);
       first-block = λ j k. absurd (omega arith);
       size-at-0 = λ _. refl;
+      sized = λ no′. absurd (no′ refl);
       within = λ no′. absurd (no′ refl);
     },
   )

@@ -20,12 +20,13 @@ pub record Accepted (image : List ℕ) (ends : Ends) : Type 0 where
   pub unbroken : (i : ℕ) → i < blockCount image → (rule : Fault) → breaks image ends i rule ≡ false
 
 -- A refusal names the first block that breaks a rule, and the first rule that this block breaks. The first rule of all is Size,
--- which names block 0, so any other refusal says that the size is right.
+-- which names block 0; any other refusal says that the size is right.
 pub record Refused (image : List ℕ) (ends : Ends) (fault : Fault) (place : ℕ) : Type 0 where
   pub broken : breaks image ends place fault ≡ true
   pub first-rule : (rule : Fault) → faultNumber rule < faultNumber fault → breaks image ends place rule ≡ false
   pub first-block : (i : ℕ) → i < place → (rule : Fault) → breaks image ends i rule ≡ false
   pub size-at-0 : fault ≡ Size → place ≡ 0
+  pub sized : (fault ≡ Size → ⊥) → wrongSize image ≡ false
   pub within : (fault ≡ Size → ⊥) → place < blockCount image
 
 -- The answer of a check.
