@@ -1,6 +1,8 @@
 // Whole instructions from plain numbers. Each number is the unsigned one that stands in its field of the word; a number
 // that does not fit its field, or a special register above 5, is refused. (`rfe` has no fields:
 // `Instruction::ReturnFromException`.)
+#![tactic(auto)]
+
 ghost use Rattle.std.specs.Prelude.{◌+◌, [], ◌∷◌};
 ghost use Rattle.instruction.specs.Codes.{load_code, store_code, branch_code, alu_code, shift_code, relations_code, bit};
 ghost use Rattle.instruction.specs.Fields.{opcode_field, rs1_field, rd_i_field, immediate_field, rs2_field, rd_r_field, sa_field, function_field, offset_field};

@@ -1,5 +1,7 @@
 // What an image holds, as rows for people: its blocks, the program words that it wrote as instructions, and how many data
 // bytes it wrote.
+#![tactic(auto)]
+
 mod cover;
 mod lister;
 mod printed;

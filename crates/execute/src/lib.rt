@@ -1,4 +1,6 @@
 // What instructions compute, as functions of words that every machine can share.
+#![tactic(auto)]
+
 mod arithmetic;
 mod branch;
 mod cause;

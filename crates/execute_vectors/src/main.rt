@@ -1,5 +1,7 @@
 // Answers commands about what instructions compute, one to a line (vectors/README.md lists them). What it must print was
 // worked out by another program (vectors/execution.py).
+#![tactic(auto)]
+
 use anyhow::anyhow;
 use execute::{
     Cause, Width, alu, constant, counted, effective_address, extend_immediate, extend_offset, flow,

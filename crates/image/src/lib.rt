@@ -3,6 +3,8 @@
 // A block, all numbers lowest byte first: its number (bytes 0 to 3), its kind (4), a zero (5), its
 // count of payload bytes (6 and 7), its address (8 to 11), the payload (12 to 507) and its check
 // (508 to 511), the sum of the 127 words before it, modulo 2^32.
+#![tactic(auto)]
+
 ghost use Rattle.std.specs.Prelude.{◌≡◌};
 ghost use Rattle.image.specs.Rules.{fault_number};
 

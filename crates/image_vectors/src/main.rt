@@ -1,7 +1,9 @@
-// Tries images, most of them damaged. Commands, one to a line: `new N` starts an image of N zero bytes, `set offset_field BYTES`
+// Tries images, most of them damaged. Commands, one to a line: `new N` starts an image of N zero bytes, `set OFFSET BYTES`
 // writes bytes given in hexadecimal, `sum BLOCK` recomputes a block's check, `room WORDS BYTES` gives the memories
 // another length, and `try` loads the image into cleared memories
 // and prints the answer. What it must print was worked out by another program (vectors/images.py).
+#![tactic(auto)]
+
 use anyhow::anyhow;
 use image::load;
 use std::alloc::Global;

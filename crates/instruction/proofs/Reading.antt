@@ -21,7 +21,7 @@ module _ (w : ℕ) where
   unfolding register_at
   rs1_is r e = register_same _ _ e
 
-  -- RD of the I form and rs2_field of the R form stand in one place
+  -- RD of the I form and RS2 of the R form stand in one place
   rd_is : (r : Register) → in_field rd_i_field w ≡ r.index → register_at rd_i_field w ≡ r
   unfolding register_at
   rd_is r e = register_same _ _ e

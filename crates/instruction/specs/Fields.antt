@@ -20,7 +20,7 @@ in_field f w = w / 2 ^ f.low % 2 ^ f.width
 abbrev pub opcode_field : Field
 opcode_field = record { low = 26; width = 6 }
 
--- the I form: rs1_field 25 to 21, RD 20 to 16, immediate 15 to 0
+-- the I form: RS1 25 to 21, RD 20 to 16, immediate 15 to 0
 abbrev pub rs1_field : Field
 rs1_field = record { low = 21; width = 5 }
 
@@ -30,7 +30,7 @@ rd_i_field = record { low = 16; width = 5 }
 abbrev pub immediate_field : Field
 immediate_field = record { low = 0; width = 16 }
 
--- the R form, opcode 0: rs1_field 25 to 21, rs2_field 20 to 16, RD 15 to 11, sa_field 10 to 6, function 5 to 0
+-- the R form, opcode 0: RS1 25 to 21, RS2 20 to 16, RD 15 to 11, SA 10 to 6, function 5 to 0
 abbrev pub rs2_field : Field
 rs2_field = record { low = 16; width = 5 }
 

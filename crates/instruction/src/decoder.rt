@@ -11,7 +11,7 @@ use crate::operation::{
     AluOp, Condition, LoadKind, Relations, ShiftOp, SpecialRegister, StoreKind,
 };
 
-// The lowest bit of each field of five bits; rs2_field of the R form stands where the I form has RD.
+// The lowest bit of each field of five bits; RS2 of the R form stands where the I form has RD.
 const RS1_LOW: u32 = 21;
 
 const RD_I_LOW: u32 = 16;

@@ -1,4 +1,6 @@
 // The instruction words of the fixed-point DLX: what a word says, and how an instruction is written as a word.
+#![tactic(auto)]
+
 mod decoder;
 mod encoder;
 mod field;

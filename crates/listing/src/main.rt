@@ -1,4 +1,6 @@
 // listing: reads an image from standard input and prints what it holds.
+#![tactic(auto)]
+
 use disassembly::listing_text;
 use image::IMAGE_MAX;
 use std::io;

@@ -1,4 +1,6 @@
 // What a memory promises: accesses, answers, the traits of program and data memories, and asking until answered.
+#![tactic(auto)]
+
 mod access;
 mod byte_laws;
 mod data_memory;

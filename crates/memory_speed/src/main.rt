@@ -1,6 +1,8 @@
 // What a load costs, from RAM and through one and two slow layers. Standard input has the number of loads and the waits of each
 // layer, on one line. A load that is made to wait counts as asked, and is not repeated. The sums go to standard output, the
 // times, which differ from run to run, to standard error.
+#![tactic(auto)]
+
 use memory::{Answer, DataMemory};
 use slow::Slow;
 use std::time::Instant;

@@ -1,6 +1,8 @@
 // Tries memories. Commands, one to a line: `paged` and `ram` make a data memory and a program memory anew, all others ask
 // them something and print the answer. The format stands in vectors/README.md. What it must print was worked out by another
 // program (vectors/memories.py).
+#![tactic(auto)]
+
 mod bench;
 mod command;
 mod setup;

@@ -1,4 +1,6 @@
 // Instructions as people write them, in assembly notation.
+#![tactic(auto)]
+
 mod assembly;
 mod mnemonic;
 mod operand;

@@ -1,4 +1,6 @@
 // A layer that adds waits to each access of any program or data memory below it, a slow one included.
+#![tactic(auto)]
+
 mod counter;
 mod counter_state;
 mod data_layer;

@@ -1,4 +1,6 @@
 // Memories over the caller's words and bytes, from address 0, that never wait.
+#![tactic(auto)]
+
 mod bytes;
 mod limit;
 mod paged_ram;

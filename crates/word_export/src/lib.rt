@@ -1,4 +1,6 @@
 // Reading and writing words, for callers in C: vectors/all_words compares it with a table of its own on every word.
+#![tactic(auto)]
+
 ghost use Rattle.std.specs.Prelude.{◌≡◌};
 ghost use Rattle.instruction.specs.Table.{decoded_of};
 ghost use Rattle.word_export.specs.Canon.{written};

@@ -1,6 +1,8 @@
 // Reads words, eight hexadecimal digits to a line, and prints of each the word itself, the word that its instruction is
 // written as, and the instruction's text; or that it is illegal. What it must print was worked out by another program
 // (vectors/words.py).
+#![tactic(auto)]
+
 use instruction::{decode, encode};
 use notation::Assembly;
 use std::fmt;
