@@ -7,7 +7,7 @@ use crate::program_memory::ProgramMemory;
 
 // Asks for a load or a store, once.
 pub fn ask<D: DataMemory>(memory: &mut D, access: Access) -> Answer
-    requires { sound memory.old }
+    requires { D.sound memory.old }
     ensures { AccessAsked D.DataMemory memory.old access result memory.new }
 {
     match access {
@@ -22,7 +22,7 @@ pub fn ask<D: DataMemory>(memory: &mut D, access: Access) -> Answer
 
 // The value of a load or 0 for a store, or nothing where it is absent.
 pub fn settle<D: DataMemory>(memory: &mut D, access: Access) -> Option<u32>
-    requires { sound memory.old }
+    requires { D.sound memory.old }
     ensures { AccessSettled D.DataMemory memory.old access result memory.new }
 {
     loop {
@@ -36,7 +36,7 @@ pub fn settle<D: DataMemory>(memory: &mut D, access: Access) -> Option<u32>
 
 // The word at an address, or nothing where it is absent.
 pub fn settle_fetch<P: ProgramMemory>(memory: &mut P, address: u32) -> Option<u32>
-    requires { sound memory.old }
+    requires { P.sound memory.old }
     ensures { FetchSettled P.ProgramMemory memory.old address result memory.new }
 {
     loop {

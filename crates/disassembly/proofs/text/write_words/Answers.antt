@@ -6,7 +6,7 @@ use Rattle.disassembly.proofs.text.write_words.Goals as goal
 pub loop-row-preserved : goal.loop-row-preserved
 loop-row-preserved c =
     line_more word_line c.args.rows.now c.loop-row.row-index _ (string_bytes c.loop-row.text) c.loop-row.invariant _ _
-    c.loop-row-test.true c.in-ok-writeln.ensures.bytes
+    c.loop-row-test.true c.in_ok-writeln.ensures.bytes
 
 pub returns : goal.returns
 returns c = line_all word_line c.args.rows.now c.loop-row.row-index _ (string_bytes c.loop-row.text) c.loop-row.invariant c.loop-row-test.false

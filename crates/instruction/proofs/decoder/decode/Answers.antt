@@ -8,6 +8,6 @@ use Rattle.instruction.proofs.decoder.decode.Goals as goal
 pub returns : goal.returns
 unfolding decoded_of
 returns c = record {
-  value = c.decode-opcode.ensures;
-  law = subst (Decides c.args.word) (sym c.decode-opcode.ensures) (decides c.args.word);
+  value = c.decode_opcode.ensures;
+  law = subst (Decides c.args.word) (sym c.decode_opcode.ensures) (decides c.args.word);
 }
