@@ -18,7 +18,7 @@ pub struct Assembly(pub Instruction);
 
 // NAME A
 fn one<W: fmt::Write, A: fmt::Display>(f: &mut fmt::Formatter<W>, name: &str, a: &A) -> fmt::Result
-    ensures { DisplaysOnOk write_str_gives f.old result (option_append (Some name.now) (option_append (Some (codes " ")) (A.Display.output a.now))) f.new }
+    ensures { DisplaysOnOk W.write_str_gives f.old result (option_append (Some name.now) (option_append (Some (codes " ")) (A.Display.output a.now))) f.new }
 {
     write!(f, "{name} {a}")
 }
@@ -30,7 +30,7 @@ fn two<W: fmt::Write, A: fmt::Display, B: fmt::Display>(
     a: &A,
     b: &B,
 ) -> fmt::Result
-    ensures { DisplaysOnOk write_str_gives f.old result (option_append (Some name.now) (option_append (Some (codes " ")) (option_append (A.Display.output a.now) (option_append (Some (codes ", ")) (B.Display.output b.now))))) f.new }
+    ensures { DisplaysOnOk W.write_str_gives f.old result (option_append (Some name.now) (option_append (Some (codes " ")) (option_append (A.Display.output a.now) (option_append (Some (codes ", ")) (B.Display.output b.now))))) f.new }
 {
     write!(f, "{name} {a}, {b}")
 }
@@ -43,7 +43,7 @@ fn three<W: fmt::Write, C: fmt::Display>(
     rs1: Register,
     c: &C,
 ) -> fmt::Result
-    ensures { DisplaysOnOk write_str_gives f.old result (option_append (Some name.now) (option_append (Some (codes " ")) (option_append (Some (register_text rd)) (option_append (Some (codes ", ")) (option_append (Some (register_text rs1)) (option_append (Some (codes ", ")) (C.Display.output c.now))))))) f.new }
+    ensures { DisplaysOnOk W.write_str_gives f.old result (option_append (Some name.now) (option_append (Some (codes " ")) (option_append (Some (register_text rd)) (option_append (Some (codes ", ")) (option_append (Some (register_text rs1)) (option_append (Some (codes ", ")) (C.Display.output c.now))))))) f.new }
 {
     let a = Reg(rd);
     let b = Reg(rs1);

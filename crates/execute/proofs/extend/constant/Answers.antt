@@ -2,9 +2,9 @@ use Rattle.std.proofs.Common.{rules}
 use Rattle.execute.specs.Extension.{constant_of}
 use Rattle.execute.proofs.extend.constant.Goals as goal
 
-pub returns-in-default : goal.returns-in-default
+pub returns-in_default : goal.returns-in_default
 unfolding constant_of
-returns-in-default c = search rules
+returns-in_default c = search rules
 
 pub returns-in-Jump : goal.returns-in-Jump
 unfolding constant_of
