@@ -47,7 +47,7 @@ fn time<D: DataMemory>(
     memory: &mut D,
     count: u32,
 ) -> anyhow::Result<()>
-    requires { sound memory.old }
+    requires { D.sound memory.old }
 {
     let start = Instant::now(rt)?;
     let sum = sum_of_loads(memory, count);
@@ -60,7 +60,7 @@ fn time<D: DataMemory>(
 
 // The sum, modulo 2^32, of the words loaded one after another.
 fn sum_of_loads<D: DataMemory>(memory: &mut D, count: u32) -> u32
-    requires { sound memory.old }
+    requires { D.sound memory.old }
 {
     let mut sum = 0u32;
     for i in 0..count {

@@ -2,6 +2,7 @@
 use crate::command::{Ask, Command};
 use memory::{Answer, DataMemory, ProgramMemory, ask, settle, settle_fetch};
 use memory_examples::{ask_each_once, settle_each};
+use std::alloc::AllocError;
 use std::fmt;
 
 // An answer as it is printed.
@@ -24,7 +25,7 @@ pub fn answer_all<P: ProgramMemory, D: DataMemory>(
     data: &mut D,
     commands: &[Command],
     answers: &mut String,
-) -> fmt::Result
+) -> Result<(), AllocError>
     requires program_sound { P.ProgramMemory.sound program.old }
     requires data_sound { D.DataMemory.sound «data».old }
 {
@@ -39,7 +40,7 @@ fn answer<P: ProgramMemory, D: DataMemory>(
     data: &mut D,
     command: Command,
     answers: &mut String,
-) -> fmt::Result
+) -> Result<(), AllocError>
     requires program_sound { P.ProgramMemory.sound program.old }
     requires data_sound { D.DataMemory.sound «data».old }
     ensures program_kept { P.ProgramMemory.sound program.new }
@@ -101,8 +102,8 @@ fn answered(value: Option<u32>) -> Answer {
     }
 }
 
-fn look_byte<D: DataMemory>(data: &D, address: u32, answers: &mut String) -> fmt::Result
-    requires { sound «data».now }
+fn look_byte<D: DataMemory>(data: &D, address: u32, answers: &mut String) -> Result<(), AllocError>
+    requires { D.sound «data».now }
 {
     match data.look(address) {
         Some(byte) => writeln!(answers, "byte {byte}"),
@@ -110,8 +111,12 @@ fn look_byte<D: DataMemory>(data: &D, address: u32, answers: &mut String) -> fmt
     }
 }
 
-fn look_word<P: ProgramMemory>(program: &P, address: u32, answers: &mut String) -> fmt::Result
-    requires { sound program.now }
+fn look_word<P: ProgramMemory>(
+    program: &P,
+    address: u32,
+    answers: &mut String,
+) -> Result<(), AllocError>
+    requires { P.sound program.now }
 {
     match program.look(address) {
         Some(word) => writeln!(answers, "word {word}"),

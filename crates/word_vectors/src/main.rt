@@ -5,7 +5,7 @@
 
 use instruction::{decode, encode};
 use notation::Assembly;
-use std::fmt;
+use std::alloc::AllocError;
 use std::io::{BufRead, BufReader};
 
 fn main(rt: HostRuntime) -> anyhow::Result<()> {
@@ -22,7 +22,7 @@ fn run(rt: &HostRuntime) -> anyhow::Result<()> {
     Ok(())
 }
 
-fn write_line(text: &mut String, word: u32) -> fmt::Result {
+fn write_line(text: &mut String, word: u32) -> Result<(), AllocError> {
     let Some(instruction) = decode(word) else {
         return writeln!(text, "{word:08x} illegal");
     };

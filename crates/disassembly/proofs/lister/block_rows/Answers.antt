@@ -16,12 +16,12 @@ loop-rows-init c =
       c.new-rows.ensures.items ∙ sym (blocks_none image _ o.at_first),
     )
 
-pub returns-in-err-block : goal.returns-in-err-block
-returns-in-err-block c =
+pub returns-in_err-block : goal.returns-in_err-block
+returns-in_err-block c =
     let image = c.args.image.now in
     let o = c.in_ok-reader.ensures in
     let w = walk_refused image (reader_ends c.in_ok-reader.reader) c.loop-rows.reader c.next.new.self c.loop-rows.invariant.0 c.in_err-block.field-0.0 c.in_err-block.ensures in
-    let p = err_from_is_err_and c.from_residual-in-err-block.result c.from_residual-in-err-block.ensures.1 in
+    let p = err_from_is_err_and c.from_residual-in_err-block.result c.from_residual-in_err-block.ensures.1 in
     rw (p.1, p.2) (ap (first_refusal image) (sym o.against) ∙ w.0)
 
 pub loop-rows-preserved : goal.loop-rows-preserved
@@ -34,7 +34,7 @@ loop-rows-preserved c =
     let d = c.in_ok-block.ensures in
     let g = walk_got image ends s t c.loop-rows.invariant.0 c.in_ok-block.field-0 b c.in-Some.is d in (
       walk_more image ends s t c.loop-rows.invariant.0 c.in_ok-block.field-0 b c.in-Some.is d,
-      blocks_more image (reader_place s) (reader_place t) b g.holds g.next-place _ _ _ c.loop-rows.invariant.1 c.in_ok-push.ensures.items c.row-of.ensures,
+      blocks_more image (reader_place s) (reader_place t) b g.holds g.next_place _ _ _ c.loop-rows.invariant.1 c.in_ok-push.ensures.items c.row_of.ensures,
     )
 
 pub returns : goal.returns
@@ -45,6 +45,6 @@ returns c =
     let o = c.in_ok-reader.ensures in
     let ends = reader_ends c.in_ok-reader.reader in
     let d = c.in_ok-block.ensures in
-    let all = walk_all image ends s t c.loop-rows.invariant.0 c.in_ok-block.field-0 c.in-default.is d in
-    let done = walk_done image ends s t c.loop-rows.invariant.0 c.in_ok-block.field-0 c.in-default.is d in
+    let all = walk_all image ends s t c.loop-rows.invariant.0 c.in_ok-block.field-0 c.in_default.is d in
+    let done = walk_done image ends s t c.loop-rows.invariant.0 c.in_ok-block.field-0 c.in_default.is d in
     (ap (first_refusal image) (sym o.against) ∙ done.0, c.loop-rows.invariant.1 ∙ ap (block_rows image) all)

@@ -1,7 +1,7 @@
 use Rattle.std.proofs.Common.{◌≡◌, length, vec_items, vec_len, vec_capacity, sym, ap, ◌∙◌, arith}
 use Rattle.disassembly.proofs.Rowing.{words_none, word_written, word_left}
 use Rattle.disassembly.proofs.lister.word_rows.Goals as goal
-use Rattle.disassembly.proofs.lister.word_rows.Goals.{then-is-covered, else-is-covered}
+use Rattle.disassembly.proofs.lister.word_rows.Goals.{then-is_covered, else-is_covered}
 
 pub loop-k-init : goal.loop-k-init
 loop-k-init c =
@@ -11,15 +11,15 @@ loop-k-init c =
 
 pub loop-k-preserved : goal.loop-k-preserved
 loop-k-preserved c =
-    elim c.if-is-covered.branch [
-      | then-is-covered w ↦
-          let m = word_written c.args.blocks.now c.args.program.now c.loop-k.k w.if-is-covered.ensures in
-          let p = w.push-reserved.ensures in
+    elim c.if-is_covered.branch [
+      | then-is_covered w ↦
+          let m = word_written c.args.blocks.now c.args.program.now c.loop-k.k w.if-is_covered.ensures in
+          let p = w.push_reserved.ensures in
           let i = c.loop-k.invariant.0 in
           let e = ap vec_items w.words-is in
           (cc, omega (arith, ap vec_len w.words-is, p.len), omega (arith, ap vec_capacity w.words-is, p.capacity))
-      | else-is-covered w ↦
-          let m = word_left c.args.blocks.now c.args.program.now c.loop-k.k w.if-is-covered.ensures in
+      | else-is_covered w ↦
+          let m = word_left c.args.blocks.now c.args.program.now c.loop-k.k w.if-is_covered.ensures in
           let i = c.loop-k.invariant.0 in
           let e = ap vec_items w.words-is in
           (cc, omega (arith, ap vec_len w.words-is), omega (arith, ap vec_capacity w.words-is))
