@@ -1,14 +1,14 @@
 -- The rows of a listing show what the blocks cover.
-use Rattle.std.proofs.Common.{◌≡◌, ℕ, zero, suc, ◌+◌, ◌*◌, ◌/◌, ◌%◌, ◌^◌, ◌<◌, ◌≤◌, Bool, true, false, cond, ◌&&◌, ◌||◌, eqb, ltb, leb, ◌⊎◌, List, [], ◌∷◌, ◌++◌, length, get_or, Ok, Err, Result, sym, refl, ap, ◌∙◌, subst, inl, inr, append-nil, mod-eq_of_lt, div-one, arith}
+use Rattle.std.proofs.Common.{◌≡◌, ℕ, zero, suc, ◌+◌, ◌*◌, ◌%◌, ◌^◌, ◌<◌, ◌≤◌, Bool, true, false, cond, ◌||◌, ◌⊎◌, List, [], ◌∷◌, ◌++◌, length, get_or, Ok, Err, Result, sym, refl, ap, ◌∙◌, subst, inl, inr, append-nil, mod-eq_of_lt, div-one, arith}
 use Rattle.std.proofs.lemmas.List.{get_or_append_left, get_or_push, length_push}
 use Rattle.std.proofs.lemmas.Bool.{cases_eq, cases_lt}
 use Rattle.std.proofs.lemmas.Bool.Decides.{nat_tests}
-use Rattle.image.specs.Format.{block_count, block_at, kind_byte, kind_number, address_of, count_of}
+use Rattle.image.specs.Format.{block_count, block_at, address_of, count_of}
 use Rattle.image.specs.Laws.{CoversWord, CoversByte}
 use Rattle.image.specs.declared.Kind.{Kind}
-use Rattle.image.specs.declared.Kind.TheVariants.{Program, Data, End}
-use Rattle.disassembly.specs.Laws.{Covered, ShowsWord, ShowWritten, CountsWritten, ListingLaw}
-use Rattle.disassembly.specs.Rows.{kind_of, block_row, block_rows, covers, covered, word_rows, Listed}
+use Rattle.image.specs.declared.Kind.TheVariants.{Program, Data}
+use Rattle.disassembly.specs.Laws.{ShowsWord, ShowWritten, CountsWritten, ListingLaw}
+use Rattle.disassembly.specs.Rows.{block_row, block_rows, covers, covered, word_rows, Listed}
 use Rattle.disassembly.specs.declared.rows.BlockRow.{BlockRow}
 use Rattle.disassembly.specs.declared.rows.WordRow.{WordRow}
 use Rattle.disassembly.specs.declared.rows.Listing.{Listing}

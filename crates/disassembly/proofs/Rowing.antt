@@ -7,7 +7,6 @@ use Rattle.image.specs.declared.Kind.TheVariants.{Program, Data, End}
 use Rattle.image.specs.declared.block.Block.{Block}
 use Rattle.disassembly.specs.Rows.{kind_of, block_row, block_rows, covered, word_rows, covered_bytes}
 use Rattle.disassembly.specs.declared.rows.BlockRow.{BlockRow}
-use Rattle.disassembly.specs.declared.rows.WordRow.{WordRow}
 
 kind_back : (kind : Kind) → kind_of (kind_number kind) ≡ kind
 kind_back Program = refl

@@ -1,11 +1,11 @@
 -- What a listing says is what should be printed.
-use Rattle.std.proofs.Common.{◌≡◌, ℕ, List, length, replicate, Some, None, Ok, Err, vec_items, Option, sym, refl, ap, ◌∙◌, subst}
+use Rattle.std.proofs.Common.{◌≡◌, ℕ, List, replicate, Some, None, Ok, Err, Option, sym, ap, ◌∙◌}
 use Rattle.image.specs.Format.{block_count}
 use Rattle.image.specs.Load.{ends_of, words_after, bytes_after}
 use Rattle.image.specs.Rules.{first_refusal}
 use Rattle.image.specs.declared.Refusal.{Refusal}
 use Rattle.disassembly.specs.Printed.{cleared_program, cleared_data, loaded_program, loaded_data, listed_text, ToldBy, printed, printed_by}
-use Rattle.disassembly.specs.Rows.{block_rows, word_rows, covered_bytes, Listed}
+use Rattle.disassembly.specs.Rows.{Listed}
 use Rattle.disassembly.specs.Text.{listing_text}
 use Rattle.disassembly.specs.declared.rows.Listing.{Listing}
 use Rattle.disassembly.specs.declared.rows.ListError.{ListError}

@@ -1,5 +1,5 @@
 -- The lines of a listing, as bytes.
-use Rattle.std.specs.Prelude.{ℕ, ◌*◌, ◌/◌, ◌%◌, ◌^◌, false, List, [], ◌∷◌, ◌++◌, Some, None, vec_items, codes, decimal, Option}
+use Rattle.std.specs.Prelude.{ℕ, ◌/◌, ◌%◌, ◌^◌, false, List, [], ◌∷◌, ◌++◌, Some, None, vec_items, codes, decimal, Option}
 use Rattle.std.specs.Fmt.{digit_glyph}
 use Rattle.image.specs.declared.Kind.{Kind}
 use Rattle.image.specs.declared.Kind.TheVariants.{Program, Data, End}

@@ -39,7 +39,7 @@ fn reads_blocks(rt: HostRuntime) -> Result<(), Fail> {
         return Err(Fail::new("the first block is sound"));
     };
     assert!(rt; block.place == 0 && block.kind as u8 == Kind::Program as u8);
-    assert!(rt; block.address == 8 && block.payload == &[1, 2, 3, 4]);
+    assert!(rt; block.address == 8 && block.payload == [1, 2, 3, 4].as_slice());
     Ok(())
 }
 

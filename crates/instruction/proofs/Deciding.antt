@@ -1,15 +1,14 @@
 -- What is decoded from a word is the one instruction that the word reads as.
-use Rattle.std.proofs.Common.{◌≡◌, ℕ, ◌+◌, ◌*◌, ◌/◌, ◌%◌, ◌^◌, ◌<◌, Bool, true, false, eqb, IfSome, Some, None, Option, sym, refl, ap, ◌∙◌, inl, inr, mod-lt, arith, lit<}
+use Rattle.std.proofs.Common.{◌≡◌, ℕ, ◌+◌, ◌/◌, ◌%◌, ◌<◌, Bool, true, false, eqb, IfSome, Some, None, Option, refl, inl, inr, mod-lt, arith, lit<}
 use Rattle.std.proofs.lemmas.Nat.{mod-pow-add}
 use Rattle.std.proofs.lemmas.Bool.{cases_eq, eq-eqb, ne_eqb}
 use Rattle.std.proofs.lemmas.Bool.Decides.{nat_tests}
 use Rattle.instruction.specs.Codes.{load_code, store_code, branch_code, alu_code, shift_code, relations_code, relations_at, special_number, special_of, bit}
 use Rattle.instruction.specs.Fields.{in_field, opcode_field, sa_field, function_field, register_at, amount_at, immediate_of, offset_of}
 use Rattle.instruction.specs.Layout.{layout, word_of}
-use Rattle.instruction.specs.Laws.{Reads, ReadsOnly, Decides}
-use Rattle.instruction.specs.Table.{functions, opcodes, by_function, by_opcode, decoded_of, loads, stores, alus_immediate, loads_high_immediate, tests_immediate, branches, jumps_register, jumps, traps, returns, shifts_immediate, shifts, reads_special, writes_special, alus, loads_high, tests, with_special}
+use Rattle.instruction.specs.Laws.{Reads, Decides}
+use Rattle.instruction.specs.Table.{functions, opcodes, by_function, decoded_of, loads, stores, alus_immediate, loads_high_immediate, tests_immediate, branches, jumps_register, jumps, traps, returns, shifts_immediate, shifts, reads_special, writes_special, alus, loads_high, tests, with_special}
 use Rattle.instruction.specs.declared.instruction.Instruction.{Instruction}
-use Rattle.instruction.specs.declared.instruction.Instruction.TheVariants.{Load, Store, AluImmediate, LoadHighImmediate, TestImmediate, Branch, JumpRegister, Jump, Trap, ReturnFromException, ShiftImmediate, Shift, ReadSpecial, WriteSpecial, Alu, LoadHigh, Test}
 use Rattle.instruction.specs.declared.operation.LoadKind.{LoadKind}
 use Rattle.instruction.specs.declared.operation.StoreKind.{StoreKind}
 use Rattle.instruction.specs.declared.operation.AluOp.{AluOp}

@@ -1,6 +1,6 @@
 -- Values put into fields one below another: each field holds its value, and every other bit is 0.
-use Rattle.std.proofs.Common.{◌≡◌, ℕ, ◌+◌, ◌-◌, ◌*◌, ◌/◌, ◌%◌, ◌^◌, ◌<◌, ◌≤◌, ◌⊎◌, List, [], ◌∷◌, sym, refl, ap, ◌∙◌, subst, inl, inr, mod-eq_of_lt, mul_assoc, arith, pow_pos, pow_mono, pow-add}
-use native.Mathlib.Nat.{mul-add-mod_self_right, div-eq_of_lt, zero-div, zero-mod}
+use Rattle.std.proofs.Common.{◌≡◌, ℕ, ◌+◌, ◌-◌, ◌*◌, ◌/◌, ◌%◌, ◌^◌, ◌<◌, ◌≤◌, List, [], ◌∷◌, sym, refl, ap, ◌∙◌, inl, inr, mod-eq_of_lt, mul_assoc, arith, pow_pos, pow_mono, pow-add}
+use native.Mathlib.Nat.{mul-add-mod_self_right, div-eq_of_lt, zero-div}
 use lib.Arith.{digits_lt}
 use Rattle.std.proofs.lemmas.Nat.{field_of, shr_high}
 use Rattle.instruction.specs.Fields.{Field, in_field}

@@ -1,8 +1,8 @@
 -- A word that reads as an instruction is decoded as it: its code has a row, and the row takes the same fields.
-use Rattle.std.proofs.Common.{◌≡◌, ℕ, ◌+◌, Some, sym, refl, ap, ◌∙◌}
+use Rattle.std.proofs.Common.{◌≡◌, ℕ, ◌+◌, Some, ap, ◌∙◌}
 use Rattle.instruction.specs.Codes.{load_code, store_code, branch_code, alu_code, shift_code, relations_code, special_number, special_of, bit}
 use Rattle.instruction.specs.Fields.{in_field, opcode_field, rs1_field, rd_i_field, immediate_field, rd_r_field, sa_field, function_field, offset_field, register_at, amount_at, immediate_of, offset_of}
-use Rattle.instruction.specs.Table.{Reader, by_opcode, by_function, decoded_of, with_special}
+use Rattle.instruction.specs.Table.{by_opcode, by_function, decoded_of, with_special}
 use Rattle.instruction.specs.Laws.{Reads}
 use Rattle.instruction.specs.declared.instruction.Instruction.{Instruction}
 use Rattle.instruction.specs.declared.instruction.Instruction.TheVariants.{Load, Store, AluImmediate, LoadHighImmediate, TestImmediate, Branch, JumpRegister, Jump, Trap, ReturnFromException, ShiftImmediate, Shift, ReadSpecial, WriteSpecial, Alu, LoadHigh, Test}

@@ -1,7 +1,6 @@
 -- Reading by a table: what no row has, and what holds of each row.
-use Rattle.std.proofs.Common.{◌≡◌, ℕ, ◌/◌, cond, eqb, List, [], ◌∷◌, None, Option, sym, refl, ◌∙◌, inl, inr}
+use Rattle.std.proofs.Common.{◌≡◌, ℕ, ◌/◌, eqb, List, [], ◌∷◌, None, Option, sym, refl, ◌∙◌, inl, inr}
 use Rattle.std.proofs.lemmas.Bool.{cases_eq, eq-eqb, ne_eqb, cond-false}
-use Rattle.instruction.specs.Fields.{in_field, opcode_field}
 use Rattle.instruction.specs.Table.{Reader, read_by, opcodes, by_opcode}
 use Rattle.instruction.specs.declared.instruction.Instruction.{Instruction}
 

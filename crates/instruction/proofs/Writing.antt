@@ -1,5 +1,5 @@
 -- The fields of an instruction stand one below another, each with a value that fits it.
-use Rattle.std.proofs.Common.{◌≡◌, ℕ, ◌+◌, ◌^◌, ◌<◌, Bool, Some, arith, lit<, lit≤}
+use Rattle.std.proofs.Common.{◌≡◌, ◌^◌, ◌<◌, Bool, Some, arith, lit<, lit≤}
 use Rattle.instruction.specs.Codes.{load_code, store_code, branch_code, alu_code, shift_code, relations_code, special_number, bit}
 use Rattle.instruction.specs.Layout.{layout, word_of}
 use Rattle.instruction.specs.Laws.{Reads, UnusedZero}

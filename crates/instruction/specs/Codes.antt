@@ -1,5 +1,5 @@
 -- The code of each operation. Groups that stand in both forms count from their group's first code.
-use Rattle.std.specs.Prelude.{ℕ, ◌+◌, ◌*◌, ◌/◌, ◌%◌, ◌^◌, Bool, true, false, cond, List, [], ◌∷◌, Some, None, Option, ◌==◌}
+use Rattle.std.specs.Prelude.{ℕ, ◌+◌, ◌*◌, ◌/◌, ◌%◌, Bool, true, false, cond, List, [], ◌∷◌, Some, None, Option, ◌==◌}
 use Rattle.instruction.specs.declared.operation.LoadKind.{LoadKind}
 use Rattle.instruction.specs.declared.operation.LoadKind.TheVariants as load
 use Rattle.instruction.specs.declared.operation.StoreKind.{StoreKind}

@@ -1,6 +1,6 @@
 -- The fields of an instruction word: where each stands, and what a word holds there.
 -- A word is a number below 2 ^ 32; bit 0 is its lowest.
-use Rattle.std.specs.Prelude.{ℕ, ◌+◌, ◌*◌, ◌/◌, ◌%◌, ◌^◌, ◌<◌, List, [], ◌∷◌}
+use Rattle.std.specs.Prelude.{ℕ, ◌/◌, ◌%◌, ◌^◌, ◌<◌}
 use Rattle.std.proofs.Common.{mod-lt, pow_pos}
 use Rattle.instruction.specs.declared.field.Register.{Register}
 use Rattle.instruction.specs.declared.field.ShiftAmount.{ShiftAmount}

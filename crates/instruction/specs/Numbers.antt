@@ -1,5 +1,5 @@
 -- Fields made from plain numbers: each number is the unsigned one that stands in the word.
-use Rattle.std.specs.Prelude.{◌≡◌, ℕ, ◌^◌, ◌≤◌, Result, MatchResult}
+use Rattle.std.specs.Prelude.{◌≡◌, ℕ, ◌≤◌, Result, MatchResult}
 use Rattle.instruction.specs.Codes.{special_number}
 use Rattle.instruction.specs.declared.number.FieldRefusal.{FieldRefusal}
 use Rattle.instruction.specs.declared.number.FieldRefusal.TheVariants.{OutOfRange}

@@ -1,5 +1,5 @@
 -- Answers of memories that never wait, and of fetches. Other crates cite these.
-use Rattle.std.proofs.Common.{◌≡◌, ℕ, Some, None, Option, refl, ap}
+use Rattle.std.proofs.Common.{◌≡◌, ℕ, Some, None, Option, refl}
 use Rattle.std.specs.Option.{option_map}
 use Rattle.memory.specs.Promise.{Effect, answer_of, value_of, meaning_after, Says}
 use Rattle.memory.specs.declared.access.Answer.{Answer}

@@ -22,7 +22,7 @@ const BYTES: [u8; 10] = [0, 0, 0, 0, 0, 0, 0, 0, 7, 0];
 
 // Whether the answers to these accesses, each asked once, are waits and at last 7.
 fn waits_then_seven<D: DataMemory>(memory: &mut D, accesses: &[Access]) -> bool
-    requires { sound memory.old }
+    requires { D.sound memory.old }
 {
     let mut last = Answer::Wait;
     for access in accesses {

@@ -1,5 +1,5 @@
 -- What each kind of storage means: the caller's words or bytes by their places, from address 0, as far as they are in use.
-use Rattle.std.specs.Prelude.{ℕ, zero, suc, ◌+◌, ◌/◌, ◌%◌, Bool, false, cond, ◌&&◌, List, length, set, is_some, Some, None, nat_lt, slice_index, slice_index_or, slice_set}
+use Rattle.std.specs.Prelude.{ℕ, zero, suc, ◌+◌, ◌/◌, ◌%◌, Bool, false, cond, ◌&&◌, List, length, is_some, Some, None, nat_lt, slice_index, slice_index_or, slice_set}
 use Rattle.memory.specs.Bytes.{Cells, loaded}
 use Rattle.memory.specs.declared.access.Access.{Access}
 use Rattle.memory.specs.declared.access.Access.TheVariants.{Load, Store}

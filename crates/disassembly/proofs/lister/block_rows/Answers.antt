@@ -1,4 +1,4 @@
-use Rattle.std.proofs.Common.{◌≡◌, sym, refl, ap, ◌∙◌, subst}
+use Rattle.std.proofs.Common.{sym, ap, ◌∙◌, subst}
 use Rattle.std.proofs.lemmas.Result.{err_from_is_err_and}
 use Rattle.image.proofs.Walk.{walk_start, walk_got, walk_more, walk_all, walk_done, walk_refused}
 use Rattle.image.specs.Reading.{reader_ends, reader_place, OpenedAt}

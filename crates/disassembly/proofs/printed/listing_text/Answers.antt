@@ -1,4 +1,4 @@
-use Rattle.std.proofs.Common.{◌≡◌, sym, ◌∙◌}
+use Rattle.std.proofs.Common.{◌∙◌}
 use Rattle.std.proofs.lemmas.Result.{IfOk-from_err, IfOk-weaker}
 use Rattle.disassembly.proofs.Whole.{cleared_words, cleared_bytes, printed_listing, printed_error}
 use Rattle.disassembly.proofs.printed.listing_text.Goals as goal

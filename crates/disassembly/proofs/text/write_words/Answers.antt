@@ -1,6 +1,6 @@
-use Rattle.std.proofs.Common.{◌++◌, string_bytes}
+use Rattle.std.proofs.Common.{string_bytes}
 use Rattle.disassembly.proofs.Lines.{line_more, line_all}
-use Rattle.disassembly.specs.Text.{word_line, lines_of}
+use Rattle.disassembly.specs.Text.{word_line}
 use Rattle.disassembly.proofs.text.write_words.Goals as goal
 
 pub loop-row-preserved : goal.loop-row-preserved

@@ -1,5 +1,4 @@
-use Rattle.std.proofs.Common.{◌≡◌, Option, sym, subst}
-use Rattle.instruction.specs.declared.instruction.Instruction.{Instruction}
+use Rattle.std.proofs.Common.{sym, subst}
 use Rattle.instruction.specs.Laws.{Decides}
 use Rattle.instruction.specs.Table.{decoded_of}
 use Rattle.instruction.proofs.Deciding.{decides}
