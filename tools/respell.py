@@ -4,8 +4,9 @@ camel case.
 
 usage: tools/respell.py [--list]     at the top of the repository, once, right after port.py; --list only prints the names
 
-What is declared in specs/ and proofs/ of a crate is renamed wherever it stands in that text and in the contracts of src/.
-Names that the check makes (the goals that an answer file answers) and names of src/ stay. A new name that some file
+What is declared in specs/ and proofs/ of a crate is renamed wherever it stands in that text and in the contracts of src/;
+in a comment, names in capitals stay, which are those of the documents there. Names that the check makes (the goals that an
+answer file answers) and names of src/ stay. A new name that some file
 already uses for something else is an error, and nothing is written.
 """
 
@@ -14,8 +15,8 @@ import re
 import sys
 
 # What the rule alone would spell badly: the fields of a word, which would fall together with the registers that patterns
-# bind; comparisons of integers; and lemmas that would fall together with the definition that they speak of, or with the
-# library's bit_and, bit_or and bit_xor.
+# bind; comparisons of integers; lemmas that would fall together with the definition that they speak of, or with the
+# library's bit_and, bit_or and bit_xor; and a definition that would have the name of a function that answers something else.
 SPELLED = {
     "OPCODE": "opcode_field",
     "FUNCTION": "function_field",
@@ -35,6 +36,7 @@ SPELLED = {
     "fits_word": "fits_word_lem",
     "bytesPut": "bytes_put_by",
     "wordsPut": "words_put_by",
+    "listingText": "text_of_listing",
     "bit-and": "bit_of_and",
     "bit-or": "bit_of_or",
     "bit-xor": "bit_of_xor",
@@ -42,6 +44,7 @@ SPELLED = {
 
 TOKEN = re.compile(r"[^\s(){},;.`\"|\[\]]+")
 DECLARED = re.compile(r"^\s*(?:(?:abbrev|unfoldable|pub|ruleset)\s+)*([^\s(){},;.]+)\s+:(\s|$)")
+COMMENT = re.compile(r"\s*(//|--)")
 PATH = re.compile(r"\bRattle(\.[^\s(){},;.]+)+")
 GROUP = re.compile(r"^\s*(?:pub\s+)?(?:data|record|ruleset)\s+([^\s(){},;.]+)")
 
@@ -77,7 +80,11 @@ def declared():
 
 
 def turned(text, renamed):
-    return TOKEN.sub(lambda m: renamed.get(m.group(0), m.group(0)), text)
+    def line_turned(line):
+        comment = COMMENT.match(line)
+        return TOKEN.sub(lambda m: m.group(0) if comment and m.group(0).isupper() else renamed.get(m.group(0), m.group(0)), line)
+
+    return "\n".join(line_turned(line) for line in text.split("\n"))
 
 
 def main():

@@ -6,7 +6,7 @@ use Rattle.image.specs.Rules.{first_refusal}
 use Rattle.image.specs.declared.Refusal.{Refusal}
 use Rattle.disassembly.specs.Printed.{cleared_program, cleared_data, loaded_program, loaded_data, listed_text, ToldBy, printed, printed_by}
 use Rattle.disassembly.specs.Rows.{Listed}
-use Rattle.disassembly.specs.Text.{listing_text}
+use Rattle.disassembly.specs.Text.{text_of_listing}
 use Rattle.disassembly.specs.declared.rows.Listing.{Listing}
 use Rattle.disassembly.specs.declared.rows.ListError.{ListError}
 use Rattle.disassembly.specs.declared.rows.ListError.TheVariants.{Refused, OutOfMemory}
@@ -28,7 +28,7 @@ module _ (image ws d ws' d' : List ℕ) (words : ws ≡ cleared_program) (bytes 
   told : (o : Option Refusal) → first_refusal image (ends_of ws d) ≡ o → printed image ≡ printed_by o image
   told o e = ap (λ (r : Option Refusal). printed_by r image) (ap (first_refusal image) (sym same_ends) ∙ e)
 
-  pub printed_listing : (listing : Listing) → Listed image ws d (Ok listing) ws' d' → listing_text listing ≡ printed image
+  pub printed_listing : (listing : Listing) → Listed image ws d (Ok listing) ws' d' → text_of_listing listing ≡ printed image
   unfolding listed_text
   printed_listing listing l =
       let t = told None l.0.0 in

@@ -46,6 +46,6 @@ lines_of line [] = []
 lines_of line (row ∷ rows) = (line row ++ (10 ∷ [])) ++ lines_of line rows
 
 -- all lines of a listing; the last is the number of data bytes written
-abbrev pub listing_text : Listing → List ℕ
-listing_text listing =
+abbrev pub text_of_listing : Listing → List ℕ
+text_of_listing listing =
     (lines_of block_line (vec_items listing.blocks) ++ lines_of word_line (vec_items listing.words)) ++ (decimal listing.data_bytes ++ (10 ∷ []))

@@ -1,6 +1,6 @@
 // The lines of a listing.
 ghost use Rattle.std.specs.Prelude.{◌≡◌, ◌/◌, ◌%◌, ◌^◌, ◌<◌, ◌++◌, IfOk, Some, string_bytes, OnOk};
-ghost use Rattle.disassembly.specs.Text.{digit_text, hex_text, kind_text, block_line, word_line, lines_of, listing_text};
+ghost use Rattle.disassembly.specs.Text.{digit_text, hex_text, kind_text, block_line, word_line, lines_of, text_of_listing};
 
 use crate::rows::{BlockRow, Listing, WordRow};
 use image::Kind;
@@ -124,7 +124,7 @@ fn write_words(text: &mut String, rows: &[WordRow]) -> fmt::Result
 impl Listing {
     // All lines: the blocks, the program words, and the number of data bytes written.
     pub fn text(&self, heap: Global) -> Result<String, fmt::Error>
-        ensures { IfOk result (λ text. string_bytes text ≡ listing_text self.now) }
+        ensures { IfOk result (λ text. string_bytes text ≡ text_of_listing self.now) }
     {
         let mut text = String::new(heap);
         write_blocks(&mut text, &self.blocks)?;
