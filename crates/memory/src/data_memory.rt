@@ -37,7 +37,7 @@ pub trait DataMemory {
 
     ghost longest: { Fixed → ℕ };
 
-    // The open waits never pass the longest. (A member that is a fact, since a kind that holds a lent slice can have no law.)
+    // The open waits never pass the longest.
     ghost bounded: { (s : Self) (x : Access) → sound s → waits s x ≤ longest (fixed s) };
 
     // The kind's exact behaviour: asked so in that state, so it answers and so it is left.

@@ -23,7 +23,7 @@ pub trait ProgramMemory {
 
     ghost longest: { Fixed → ℕ };
 
-    // The open waits never pass the longest. (A member that is a fact, since a kind that holds a lent slice can have no law.)
+    // The open waits never pass the longest.
     ghost bounded: { (s : Self) (address : ℕ) → sound s → waits s address ≤ longest (fixed s) };
 
     // The kind's exact behaviour: asked so in that state, so it answers and so it is left.

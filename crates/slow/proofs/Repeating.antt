@@ -108,7 +108,7 @@ module _ {S B X : Type 0} (counter : S → WaitCounter) (below : S → B) (reque
   then_below t r ended run =
       let p = given_after run.count run.last run.waited in
       let last = last_below run.count run.last t r p ended run.ended in
-      let zero-given = none_given in
+      let zero_given = none_given in
       let within = run.within in
       let enough = last.0 in
       (record { count = run.count - (counter s).own; last = below run.last; waited = p.inner; ended = last.1; within = omega arith }, omega arith)
