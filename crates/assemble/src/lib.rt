@@ -1,55 +1,64 @@
 // Whole instructions from plain numbers. Each number is the unsigned one that stands in its field of the word; a number
 // that does not fit its field, or a special register above 5, is refused. (`rfe` has no fields:
 // `Instruction::ReturnFromException`.)
+//
+// Each maker is one expression that names its instruction and fields; a generic one would have to be told both, and be no plainer.
 #![tactic(auto)]
 
 ghost use Rattle.std.specs.Prelude.{◌+◌, [], ◌∷◌};
 ghost use Rattle.instruction.specs.Codes.{load_code, store_code, branch_code, alu_code, shift_code, relations_code, bit};
-ghost use Rattle.instruction.specs.Fields.{opcode_field, rs1_field, rd_i_field, immediate_field, rs2_field, rd_r_field, sa_field, function_field, offset_field};
+ghost use Rattle.instruction.specs.Fields.{opcode_field, rs1_field, rd_i_field, immediate_field, rs2_field, rd_r_field, sa_field, function_field};
+ghost use Rattle.instruction.specs.Layout.{i_fields, r_fields, j_fields};
 ghost use Rattle.assemble.specs.Builds.{Builds, BuildsSpecial};
 
 use instruction::{
-    AluOp, Condition, FieldRefusal, Immediate, Instruction, LoadKind, Offset, Register, Relations,
-    ShiftAmount, ShiftOp, SpecialRegister, StoreKind,
+    AluOp, Condition, FieldRefusal, Instruction, LoadKind, Relations, ShiftOp, StoreKind,
 };
 
 // lb, lh, lw, lbu, lhu
 pub fn load(kind: LoadKind, rd: u32, rs1: u32, imm: u32) -> Result<Instruction, FieldRefusal>
-    ensures { Builds ((opcode_field, load_code kind) ∷ (rs1_field, rs1) ∷ (rd_i_field, rd) ∷ (immediate_field, imm) ∷ []) result }
+    ensures { Builds (i_fields (load_code kind) rs1 rd imm) result }
 {
-    let rd = Register::new(rd)?;
-    let rs1 = Register::new(rs1)?;
-    let imm = Immediate::new(imm)?;
-    Ok(Instruction::Load { kind, rd, rs1, imm })
+    Ok(Instruction::Load {
+        kind,
+        rd: rd.try_into()?,
+        rs1: rs1.try_into()?,
+        imm: imm.try_into()?,
+    })
 }
 
 // sb, sh, sw; `rd` is the register that is stored
 pub fn store(kind: StoreKind, rd: u32, rs1: u32, imm: u32) -> Result<Instruction, FieldRefusal>
-    ensures { Builds ((opcode_field, store_code kind) ∷ (rs1_field, rs1) ∷ (rd_i_field, rd) ∷ (immediate_field, imm) ∷ []) result }
+    ensures { Builds (i_fields (store_code kind) rs1 rd imm) result }
 {
-    let rd = Register::new(rd)?;
-    let rs1 = Register::new(rs1)?;
-    let imm = Immediate::new(imm)?;
-    Ok(Instruction::Store { kind, rd, rs1, imm })
+    Ok(Instruction::Store {
+        kind,
+        rd: rd.try_into()?,
+        rs1: rs1.try_into()?,
+        imm: imm.try_into()?,
+    })
 }
 
 // addi, addiu, subi, subiu, andi, ori, xori
 pub fn alu_immediate(op: AluOp, rd: u32, rs1: u32, imm: u32) -> Result<Instruction, FieldRefusal>
-    ensures { Builds ((opcode_field, 0x08 + alu_code op) ∷ (rs1_field, rs1) ∷ (rd_i_field, rd) ∷ (immediate_field, imm) ∷ []) result }
+    ensures { Builds (i_fields (0x08 + alu_code op) rs1 rd imm) result }
 {
-    let rd = Register::new(rd)?;
-    let rs1 = Register::new(rs1)?;
-    let imm = Immediate::new(imm)?;
-    Ok(Instruction::AluImmediate { op, rd, rs1, imm })
+    Ok(Instruction::AluImmediate {
+        op,
+        rd: rd.try_into()?,
+        rs1: rs1.try_into()?,
+        imm: imm.try_into()?,
+    })
 }
 
 // lhgi
 pub fn load_high_immediate(rd: u32, imm: u32) -> Result<Instruction, FieldRefusal>
     ensures { Builds ((opcode_field, 0x0f) ∷ (rd_i_field, rd) ∷ (immediate_field, imm) ∷ []) result }
 {
-    let rd = Register::new(rd)?;
-    let imm = Immediate::new(imm)?;
-    Ok(Instruction::LoadHighImmediate { rd, imm })
+    Ok(Instruction::LoadHighImmediate {
+        rd: rd.try_into()?,
+        imm: imm.try_into()?,
+    })
 }
 
 // clri, sgri, seqi, sgei, slsi, snei, slei, seti
@@ -59,112 +68,132 @@ pub fn test_immediate(
     rs1: u32,
     imm: u32,
 ) -> Result<Instruction, FieldRefusal>
-    ensures { Builds ((opcode_field, 0x18 + relations_code test) ∷ (rs1_field, rs1) ∷ (rd_i_field, rd) ∷ (immediate_field, imm) ∷ []) result }
+    ensures { Builds (i_fields (0x18 + relations_code test) rs1 rd imm) result }
 {
-    let rd = Register::new(rd)?;
-    let rs1 = Register::new(rs1)?;
-    let imm = Immediate::new(imm)?;
-    Ok(Instruction::TestImmediate { test, rd, rs1, imm })
+    Ok(Instruction::TestImmediate {
+        test,
+        rd: rd.try_into()?,
+        rs1: rs1.try_into()?,
+        imm: imm.try_into()?,
+    })
 }
 
 // beqz, bnez
 pub fn branch(when: Condition, rs1: u32, imm: u32) -> Result<Instruction, FieldRefusal>
     ensures { Builds ((opcode_field, branch_code when) ∷ (rs1_field, rs1) ∷ (immediate_field, imm) ∷ []) result }
 {
-    let rs1 = Register::new(rs1)?;
-    let imm = Immediate::new(imm)?;
-    Ok(Instruction::Branch { when, rs1, imm })
+    Ok(Instruction::Branch {
+        when,
+        rs1: rs1.try_into()?,
+        imm: imm.try_into()?,
+    })
 }
 
 // jr, and jalr with `link`
 pub fn jump_register(link: bool, rs1: u32) -> Result<Instruction, FieldRefusal>
     ensures { Builds ((opcode_field, 0x16 + bit link) ∷ (rs1_field, rs1) ∷ []) result }
 {
-    let rs1 = Register::new(rs1)?;
-    Ok(Instruction::JumpRegister { link, rs1 })
+    Ok(Instruction::JumpRegister {
+        link,
+        rs1: rs1.try_into()?,
+    })
 }
 
 // j, and jal with `link`
 pub fn jump(link: bool, offset: u32) -> Result<Instruction, FieldRefusal>
-    ensures { Builds ((opcode_field, 0x02 + bit link) ∷ (offset_field, offset) ∷ []) result }
+    ensures { Builds (j_fields (0x02 + bit link) offset) result }
 {
-    let offset = Offset::new(offset)?;
-    Ok(Instruction::Jump { link, offset })
+    Ok(Instruction::Jump {
+        link,
+        offset: offset.try_into()?,
+    })
 }
 
 // trap
 pub fn trap(offset: u32) -> Result<Instruction, FieldRefusal>
-    ensures { Builds ((opcode_field, 0x3e) ∷ (offset_field, offset) ∷ []) result }
+    ensures { Builds (j_fields 0x3e offset) result }
 {
-    let offset = Offset::new(offset)?;
-    Ok(Instruction::Trap { offset })
+    Ok(Instruction::Trap {
+        offset: offset.try_into()?,
+    })
 }
 
 // slli, srli, srai
 pub fn shift_immediate(op: ShiftOp, rd: u32, rs1: u32, sa: u32) -> Result<Instruction, FieldRefusal>
     ensures { Builds ((opcode_field, 0) ∷ (rs1_field, rs1) ∷ (rd_r_field, rd) ∷ (sa_field, sa) ∷ (function_field, shift_code op) ∷ []) result }
 {
-    let rd = Register::new(rd)?;
-    let rs1 = Register::new(rs1)?;
-    let sa = ShiftAmount::new(sa)?;
-    Ok(Instruction::ShiftImmediate { op, rd, rs1, sa })
+    Ok(Instruction::ShiftImmediate {
+        op,
+        rd: rd.try_into()?,
+        rs1: rs1.try_into()?,
+        sa: sa.try_into()?,
+    })
 }
 
 // sll, srl, sra
 pub fn shift(op: ShiftOp, rd: u32, rs1: u32, rs2: u32) -> Result<Instruction, FieldRefusal>
-    ensures { Builds ((opcode_field, 0) ∷ (rs1_field, rs1) ∷ (rs2_field, rs2) ∷ (rd_r_field, rd) ∷ (function_field, 0x04 + shift_code op) ∷ []) result }
+    ensures { Builds (r_fields rs1 rs2 rd (0x04 + shift_code op)) result }
 {
-    let rd = Register::new(rd)?;
-    let rs1 = Register::new(rs1)?;
-    let rs2 = Register::new(rs2)?;
-    Ok(Instruction::Shift { op, rd, rs1, rs2 })
+    Ok(Instruction::Shift {
+        op,
+        rd: rd.try_into()?,
+        rs1: rs1.try_into()?,
+        rs2: rs2.try_into()?,
+    })
 }
 
 // movs2i
 pub fn read_special(rd: u32, special: u32) -> Result<Instruction, FieldRefusal>
     ensures { BuildsSpecial special ((opcode_field, 0) ∷ (rd_r_field, rd) ∷ (sa_field, special) ∷ (function_field, 0x10) ∷ []) result }
 {
-    let rd = Register::new(rd)?;
-    let special = SpecialRegister::new(special)?;
-    Ok(Instruction::ReadSpecial { rd, special })
+    Ok(Instruction::ReadSpecial {
+        rd: rd.try_into()?,
+        special: special.try_into()?,
+    })
 }
 
 // movi2s
 pub fn write_special(special: u32, rs1: u32) -> Result<Instruction, FieldRefusal>
     ensures { BuildsSpecial special ((opcode_field, 0) ∷ (rs1_field, rs1) ∷ (sa_field, special) ∷ (function_field, 0x11) ∷ []) result }
 {
-    let special = SpecialRegister::new(special)?;
-    let rs1 = Register::new(rs1)?;
-    Ok(Instruction::WriteSpecial { special, rs1 })
+    Ok(Instruction::WriteSpecial {
+        special: special.try_into()?,
+        rs1: rs1.try_into()?,
+    })
 }
 
 // add, addu, sub, subu, and, or, xor
 pub fn alu(op: AluOp, rd: u32, rs1: u32, rs2: u32) -> Result<Instruction, FieldRefusal>
-    ensures { Builds ((opcode_field, 0) ∷ (rs1_field, rs1) ∷ (rs2_field, rs2) ∷ (rd_r_field, rd) ∷ (function_field, 0x20 + alu_code op) ∷ []) result }
+    ensures { Builds (r_fields rs1 rs2 rd (0x20 + alu_code op)) result }
 {
-    let rd = Register::new(rd)?;
-    let rs1 = Register::new(rs1)?;
-    let rs2 = Register::new(rs2)?;
-    Ok(Instruction::Alu { op, rd, rs1, rs2 })
+    Ok(Instruction::Alu {
+        op,
+        rd: rd.try_into()?,
+        rs1: rs1.try_into()?,
+        rs2: rs2.try_into()?,
+    })
 }
 
 // lhg
 pub fn load_high(rd: u32, rs2: u32) -> Result<Instruction, FieldRefusal>
     ensures { Builds ((opcode_field, 0) ∷ (rs2_field, rs2) ∷ (rd_r_field, rd) ∷ (function_field, 0x27) ∷ []) result }
 {
-    let rd = Register::new(rd)?;
-    let rs2 = Register::new(rs2)?;
-    Ok(Instruction::LoadHigh { rd, rs2 })
+    Ok(Instruction::LoadHigh {
+        rd: rd.try_into()?,
+        rs2: rs2.try_into()?,
+    })
 }
 
 // clr, sgr, seq, sge, sls, sne, sle, set
 pub fn test(test: Relations, rd: u32, rs1: u32, rs2: u32) -> Result<Instruction, FieldRefusal>
-    ensures { Builds ((opcode_field, 0) ∷ (rs1_field, rs1) ∷ (rs2_field, rs2) ∷ (rd_r_field, rd) ∷ (function_field, 0x28 + relations_code test) ∷ []) result }
+    ensures { Builds (r_fields rs1 rs2 rd (0x28 + relations_code test)) result }
 {
-    let rd = Register::new(rd)?;
-    let rs1 = Register::new(rs1)?;
-    let rs2 = Register::new(rs2)?;
-    Ok(Instruction::Test { test, rd, rs1, rs2 })
+    Ok(Instruction::Test {
+        test,
+        rd: rd.try_into()?,
+        rs1: rs1.try_into()?,
+        rs2: rs2.try_into()?,
+    })
 }
 
 #[cfg(test)]

@@ -1,18 +1,18 @@
 -- The rows of a listing show what the blocks cover.
-use Rattle.std.proofs.Common.{◌≡◌, ℕ, zero, suc, ◌+◌, ◌*◌, ◌%◌, ◌^◌, ◌<◌, ◌≤◌, Bool, true, false, cond, ◌||◌, ◌⊎◌, List, [], ◌∷◌, ◌++◌, length, get_or, Ok, Err, Result, sym, refl, ap, ◌∙◌, subst, inl, inr, append-nil, mod-eq_of_lt, div-one, arith}
+use Rattle.std.proofs.Common.{◌≡◌, ℕ, zero, suc, ◌+◌, ◌*◌, ◌%◌, ◌^◌, ◌<◌, ◌≤◌, Bool, true, false, cond, ◌||◌, List, [], ◌∷◌, ◌++◌, length, get_or, Ok, sym, refl, ap, ◌∙◌, subst, inl, inr, append-nil, mod-eq_of_lt, div-one, arith}
 use Rattle.std.proofs.lemmas.List.{get_or_append_left, get_or_push, length_push}
-use Rattle.std.proofs.lemmas.Bool.{cases_eq, cases_lt}
+use Rattle.std.proofs.lemmas.List.Recursion.{or_push}
+use Rattle.std.proofs.lemmas.Bool.{cases_eq, cases_lt, or_cases, or_left, or_right}
 use Rattle.std.proofs.lemmas.Bool.Decides.{nat_tests}
 use Rattle.image.specs.Format.{block_count, block_at, address_of, count_of}
 use Rattle.image.specs.Laws.{CoversWord, CoversByte}
 use Rattle.image.specs.declared.Kind.{Kind}
 use Rattle.image.specs.declared.Kind.TheVariants.{Program, Data}
 use Rattle.disassembly.specs.Laws.{ShowsWord, ShowWritten, CountsWritten, ListingLaw}
-use Rattle.disassembly.specs.Rows.{block_row, block_rows, covers, covered, word_rows, Listed}
+use Rattle.disassembly.specs.Rows.{block_row, block_rows, covers, covered, word_rows, Lists}
 use Rattle.disassembly.specs.declared.rows.BlockRow.{BlockRow}
 use Rattle.disassembly.specs.declared.rows.WordRow.{WordRow}
 use Rattle.disassembly.specs.declared.rows.Listing.{Listing}
-use Rattle.disassembly.specs.declared.rows.ListError.{ListError}
 
 -- one block's row covers what the block covers
 
@@ -43,39 +43,16 @@ covers_byte image i k c =
 
 -- a list of blocks covers what one of them covers
 
-or_false : (b : Bool) → (b || false) ≡ b
-or_false true = refl
-or_false false = refl
-
-or_grouped : (a b c : Bool) → (a || (b || c)) ≡ ((a || b) || c)
-or_grouped true b c = refl
-or_grouped false b c = refl
-
-or_true : (a b : Bool) → (a || b) ≡ true → (a ≡ true) ⊎ (b ≡ true)
-or_true true b e = inl refl
-or_true false b e = inr e
-
-or_right : (a b : Bool) → b ≡ true → (a || b) ≡ true
-or_right true b e = refl
-or_right false b e = e
-
-or_left : (a b : Bool) → a ≡ true → (a || b) ≡ true
-or_left true b e = refl
-or_left false b e = absurd (grind (arith, nat_tests))
-
 module _ (kind : Kind) (unit k : ℕ) where
   covered_push : (rows : List BlockRow) (row : BlockRow) → covered kind unit k (rows ++ row ∷ []) ≡ (covered kind unit k rows || covers kind unit k row)
-  covered_push [] row = or_false (covers kind unit k row)
-  covered_push (first ∷ rows) row =
-      ap (λ (b : Bool). covers kind unit k first || b) (covered_push rows row)
-      ∙ or_grouped (covers kind unit k first) (covered kind unit k rows) (covers kind unit k row)
+  covered_push rows row = or_push (covered kind unit k) (covers kind unit k) refl (λ x xs. refl) rows row
 
   module _ (image : List ℕ) where
     one_covers : (n : ℕ) → covered kind unit k (block_rows image n) ≡ true → (i : ℕ) × ((i < n) × (covers kind unit k (block_row image i) ≡ true))
     unfolding block_rows
     one_covers zero e = absurd (grind (arith, nat_tests))
     one_covers (suc n) e =
-        elim (or_true _ _ (sym (covered_push (block_rows image n) (block_row image n)) ∙ e)) [
+        elim (or_cases _ _ (sym (covered_push (block_rows image n) (block_row image n)) ∙ e)) [
           | inl before ↦ let r = one_covers n before in (r.0, (omega (arith, r.1.0), r.1.1))
           | inr last ↦ (n, (omega arith, last))
         ]
@@ -200,10 +177,8 @@ counts_written image k = (
 )
 
 -- whatever is listed keeps the law
-pub listed_law : (image program bytes program' bytes' : List ℕ) (answer : Result Listing ListError)
-    → Listed image program bytes answer program' bytes' → ListingLaw image program' answer
-listed_law image program bytes program' bytes' (Ok listing) l = (
-  subst (ShowWritten image program') (sym l.1.words_are) (shows_written image program'),
-  subst (CountsWritten image) (sym l.1.blocks_are) (counts_written image),
+pub listed_law : (image program bytes : List ℕ) (listing : Listing) → Lists image program bytes listing → ListingLaw image program (Ok listing)
+listed_law image program bytes listing l = (
+  subst (ShowWritten image program) (sym l.words_are) (shows_written image program),
+  subst (CountsWritten image) (sym l.blocks_are) (counts_written image),
 )
-listed_law image program bytes program' bytes' (Err error) l = tt

@@ -1,5 +1,5 @@
-pub mod Covered
 pub mod Rowing
 pub mod Lines
 pub mod Law
 pub mod Whole
+pub mod Hex

@@ -1,11 +1,11 @@
 -- One block, one word, one byte more.
-use Rattle.std.proofs.Common.{◌≡◌, ℕ, ◌+◌, ◌*◌, ◌%◌, ◌^◌, Bool, true, false, cond, List, [], ◌∷◌, ◌++◌, length, get_or, sym, refl, ap, ◌∙◌, append-nil, add-zero, add-one}
+use Rattle.std.proofs.Common.{◌≡◌, ℕ, ◌+◌, ◌*◌, ◌%◌, ◌^◌, Bool, true, false, cond, List, [], ◌∷◌, ◌++◌, get_or, sym, refl, ap, ◌∙◌, append-nil, add-one}
 use Rattle.image.specs.Format.{block_at, kind_number}
 use Rattle.image.specs.Reading.{Holds}
 use Rattle.image.specs.declared.Kind.{Kind}
 use Rattle.image.specs.declared.Kind.TheVariants.{Program, Data, End}
 use Rattle.image.specs.declared.block.Block.{Block}
-use Rattle.disassembly.specs.Rows.{kind_of, block_row, block_rows, covered, word_rows, covered_bytes}
+use Rattle.disassembly.specs.Rows.{kind_of, row_of, block_row, block_rows, covered, word_rows}
 use Rattle.disassembly.specs.declared.rows.BlockRow.{BlockRow}
 
 kind_back : (kind : Kind) → kind_of (kind_number kind) ≡ kind
@@ -24,7 +24,7 @@ module _ (image : List ℕ) where
 
   -- the row of a block that a reader gave
   row_is : (n : ℕ) (b : Block) → Holds (block_at image n) n b
-      → record { place = b.place; kind = b.kind; address = b.address; count = length b.payload.now } ≡ block_row image n
+      → row_of b ≡ block_row image n
   row_is n b h =
       let p = h.placed in
       let k = sym (kind_back b.kind) ∙ ap kind_of h.kind_is in
@@ -34,7 +34,7 @@ module _ (image : List ℕ) where
 
   pub blocks_more : (n m : ℕ) (b : Block) → Holds (block_at image n) n b → m ≡ n + 1 → (rows rows' : List BlockRow) (row : BlockRow)
       → rows ≡ block_rows image n → rows' ≡ rows ++ row ∷ []
-      → row ≡ record { place = b.place; kind = b.kind; address = b.address; count = length b.payload.now }
+      → row ≡ row_of b
       → rows' ≡ block_rows image m
   blocks_more n m b h e rows rows' row before pushed is =
       let r = row_is n b h in
@@ -59,18 +59,3 @@ module _ (rows : List BlockRow) (words : List ℕ) where
   word_left n e =
       word n ∙ ap (λ (b : Bool). word_rows rows words n ++ cond b (record { address = 4 * n % 2 ^ 32; word = get_or words n 0 } ∷ []) []) (sym e)
       ∙ append-nil (word_rows rows words n)
-
-module _ (rows : List BlockRow) where
-  pub bytes_none : covered_bytes rows 0 ≡ 0
-  unfolding covered_bytes
-  bytes_none = refl
-
-  byte : (n : ℕ) → covered_bytes rows (n + 1) ≡ covered_bytes rows n + cond (covered Data 1 n rows) 1 0
-  unfolding covered_bytes
-  byte n = simp add-one
-
-  pub byte_written : (n : ℕ) → true ≡ covered Data 1 n rows → covered_bytes rows (n + 1) ≡ covered_bytes rows n + 1
-  byte_written n e = byte n ∙ ap (λ (b : Bool). covered_bytes rows n + cond b 1 0) (sym e)
-
-  pub byte_left : (n : ℕ) → false ≡ covered Data 1 n rows → covered_bytes rows (n + 1) ≡ covered_bytes rows n
-  byte_left n e = byte n ∙ ap (λ (b : Bool). covered_bytes rows n + cond b 1 0) (sym e) ∙ add-zero (covered_bytes rows n)

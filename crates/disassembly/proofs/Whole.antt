@@ -4,12 +4,11 @@ use Rattle.image.specs.Format.{block_count}
 use Rattle.image.specs.Load.{ends_of, words_after, bytes_after}
 use Rattle.image.specs.Rules.{first_refusal}
 use Rattle.image.specs.declared.Refusal.{Refusal}
-use Rattle.disassembly.specs.Printed.{cleared_program, cleared_data, loaded_program, loaded_data, listed_text, ToldBy, printed, printed_by}
+use Rattle.disassembly.specs.Printed.{cleared_program, cleared_data, loaded_program, loaded_data, listed_text, refused_text, printed, printed_by}
 use Rattle.disassembly.specs.Rows.{Listed}
 use Rattle.disassembly.specs.Text.{text_of_listing}
 use Rattle.disassembly.specs.declared.rows.Listing.{Listing}
-use Rattle.disassembly.specs.declared.rows.ListError.{ListError}
-use Rattle.disassembly.specs.declared.rows.ListError.TheVariants.{Refused, OutOfMemory}
+use Rattle.disassembly.specs.declared.rows.ListError.TheVariants.{Refused}
 
 -- memories of zeros
 
@@ -39,6 +38,5 @@ module _ (image ws d ws' d' : List ℕ) (words : ws ≡ cleared_program) (bytes 
       let n = l.1.bytes_are in
       cc
 
-  pub printed_error : (error : ListError) → Listed image ws d (Err error) ws' d' → (text : List ℕ) → ToldBy error text → text ≡ printed image
-  printed_error (Refused refusal) l text e = e ∙ sym (told (Some refusal) l.0)
-  printed_error OutOfMemory l text e = absurd e
+  pub printed_refusal : (refusal : Refusal) → Listed image ws d (Err (Refused refusal)) ws' d' → refused_text refusal ≡ printed image
+  printed_refusal refusal l = sym (told (Some refusal) l.0)

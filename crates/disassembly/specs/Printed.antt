@@ -1,12 +1,10 @@
 -- All that is printed of an image, as bytes.
-use Rattle.std.specs.Prelude.{◌≡◌, ℕ, List, [], ◌∷◌, ◌++◌, length, replicate, Some, None, decimal, Option}
+use Rattle.std.specs.Prelude.{ℕ, List, [], ◌∷◌, ◌++◌, length, replicate, Some, None, decimal, Option}
 use Rattle.image.specs.Format.{block_count}
 use Rattle.image.specs.Load.{ends_of, words_after, bytes_after}
 use Rattle.image.specs.Rules.{first_refusal, refusal_text}
 use Rattle.image.specs.declared.Refusal.{Refusal}
 use Rattle.disassembly.specs.Rows.{block_rows, word_rows, covered_bytes}
-use Rattle.disassembly.specs.declared.rows.ListError.{ListError}
-use Rattle.disassembly.specs.declared.rows.ListError.TheVariants.{Refused, OutOfMemory}
 use Rattle.disassembly.specs.Text.{block_line, word_line, lines_of}
 
 -- the memories before loading
@@ -33,11 +31,6 @@ listed_text image =
 -- the line of a refusal
 abbrev pub refused_text : Refusal → List ℕ
 refused_text refusal = refusal_text refusal ++ (10 ∷ [])
-
--- the line of an error; want of memory has none
-abbrev pub ToldBy : ListError → List ℕ → Type 0
-ToldBy (Refused refusal) text = text ≡ refused_text refusal
-ToldBy OutOfMemory text = ⊥
 
 abbrev pub printed_by : Option Refusal → List ℕ → List ℕ
 printed_by None image = listed_text image

@@ -1,10 +1,12 @@
 -- The rows of a listing: one for each block, and one for each program word that a block wrote.
-use Rattle.std.specs.Prelude.{◌≡◌, ℕ, zero, suc, ◌+◌, ◌*◌, ◌/◌, ◌%◌, ◌^◌, Bool, false, cond, ◌&&◌, ◌||◌, List, [], ◌∷◌, ◌++◌, length, Some, None, Ok, Err, vec_items, Result, Vec, ◌==◌, nat_le, nat_lt, slice_index}
+use Rattle.std.specs.Prelude.{◌≡◌, ℕ, zero, suc, ◌+◌, ◌*◌, ◌/◌, ◌%◌, ◌^◌, Bool, if◌then◌else◌, ◌&&◌, List, [], ◌∷◌, ◌++◌, length, Some, None, Ok, Err, vec_items, Result, Vec, ◌==◌, count_by, nat_le, nat_lt, slice_index}
+use Rattle.std.specs.List.{list_any, range_with_len}
 use Rattle.std.specs.declared.alloc.Global.{Global}
 use Rattle.image.specs.Format.{block_at, block_count, kind_byte, kind_number, address_of, count_of}
 use Rattle.image.specs.Load.{Loaded}
 use Rattle.image.specs.Rules.{first_refusal}
 use Rattle.image.specs.declared.Ends.{Ends}
+use Rattle.image.specs.declared.block.Block.{Block}
 use Rattle.image.specs.declared.Kind.{Kind}
 use Rattle.image.specs.declared.Kind.TheVariants.{Program, Data, End}
 use Rattle.disassembly.specs.declared.rows.BlockRow.{BlockRow}
@@ -15,7 +17,16 @@ use Rattle.disassembly.specs.declared.rows.ListError.TheVariants.{Refused, OutOf
 
 -- the kind that a byte says, in a block that breaks no rule
 abbrev pub kind_of : ℕ → Kind
-kind_of byte = cond (byte == 1) Program (cond (byte == 2) Data End)
+kind_of byte = if byte == 1 then Program else (if byte == 2 then Data else End)
+
+-- the row of a block
+abbrev pub row_of : Block → BlockRow
+row_of block = record {
+  place = block.place;
+  kind = block.kind;
+  address = block.address;
+  count = length block.payload.now;
+}
 
 -- the row of the block at a place
 abbrev pub block_row : List ℕ → ℕ → BlockRow
@@ -37,6 +48,12 @@ BlocksListed image ends (Ok rows) = (first_refusal image ends ≡ None) × (vec_
 BlocksListed image ends (Err (Refused refusal)) = first_refusal image ends ≡ Some refusal
 BlocksListed image ends (Err OutOfMemory) = Unit {0}
 
+-- the bytes of a cell of the memory that a kind of block is for
+abbrev pub cell_bytes : Kind → ℕ
+cell_bytes Program = 4
+cell_bytes Data = 1
+cell_bytes End = 1
+
 -- whether a block of a kind covers the cell k of its memory, which has cells of `unit` bytes
 abbrev pub covers : Kind → (unit : ℕ) → ℕ → BlockRow → Bool
 covers kind unit k row =
@@ -45,19 +62,17 @@ covers kind unit k row =
 
 -- whether one of some blocks does
 abbrev pub covered : Kind → (unit : ℕ) → ℕ → List BlockRow → Bool
-covered kind unit k [] = false
-covered kind unit k (row ∷ rows) = covers kind unit k row || covered kind unit k rows
+covered kind unit k = list_any (covers kind unit k)
 
 -- the covered ones among the first n program words, in address order
 unfoldable pub word_rows : List BlockRow → List ℕ → ℕ → List WordRow
 word_rows rows words zero = []
 word_rows rows words (suc n) =
-    word_rows rows words n ++ cond (covered Program 4 n rows) (record { address = 4 * n % 2 ^ 32; word = slice_index words n } ∷ []) []
+    word_rows rows words n ++ (if covered Program 4 n rows then record { address = 4 * n % 2 ^ 32; word = slice_index words n } ∷ [] else [])
 
 -- how many of the first n data bytes are covered
 unfoldable pub covered_bytes : List BlockRow → ℕ → ℕ
-covered_bytes rows zero = 0
-covered_bytes rows (suc n) = covered_bytes rows n + cond (covered Data 1 n rows) 1 0
+covered_bytes rows n = count_by (λ k. covered Data 1 k rows) (range_with_len 0 n)
 
 -- the listing of an image, with what its program words and data bytes hold after loading
 pub record Lists (image program bytes : List ℕ) (listing : Listing) : Type 0 where

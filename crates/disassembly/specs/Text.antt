@@ -1,14 +1,16 @@
 -- The lines of a listing, as bytes.
 use Rattle.std.specs.Prelude.{ℕ, ◌/◌, ◌%◌, ◌^◌, false, List, [], ◌∷◌, ◌++◌, Some, None, vec_items, codes, decimal, Option}
 use Rattle.std.specs.Fmt.{digit_glyph}
-use Rattle.image.specs.declared.Kind.{Kind}
-use Rattle.image.specs.declared.Kind.TheVariants.{Program, Data, End}
+use Rattle.image.specs.Format.{kind_text}
+use Rattle.image.specs.Rules.{refusal_text}
 use Rattle.instruction.specs.Table.{decoded_of}
 use Rattle.instruction.specs.declared.instruction.Instruction.{Instruction}
 use Rattle.notation.specs.Notation.{text_of, notation_of}
 use Rattle.disassembly.specs.declared.rows.BlockRow.{BlockRow}
 use Rattle.disassembly.specs.declared.rows.WordRow.{WordRow}
 use Rattle.disassembly.specs.declared.rows.Listing.{Listing}
+use Rattle.disassembly.specs.declared.rows.ListError.{ListError}
+use Rattle.disassembly.specs.declared.rows.ListError.TheVariants.{Refused, OutOfMemory}
 
 -- a digit from 0 to 15, in lower case
 abbrev pub digit_text : ℕ → List ℕ
@@ -19,11 +21,6 @@ abbrev pub hex_text : ℕ → List ℕ
 hex_text w =
     text_of (digit_text (w / 2 ^ 28 % 16) ∷ digit_text (w / 2 ^ 24 % 16) ∷ digit_text (w / 2 ^ 20 % 16) ∷ digit_text (w / 2 ^ 16 % 16)
     ∷ digit_text (w / 2 ^ 12 % 16) ∷ digit_text (w / 2 ^ 8 % 16) ∷ digit_text (w / 2 ^ 4 % 16) ∷ digit_text (w / 2 ^ 0 % 16) ∷ [])
-
-abbrev pub kind_text : Kind → List ℕ
-kind_text Program = codes "program"
-kind_text Data = codes "data"
-kind_text End = codes "end"
 
 -- block B KIND address A count N
 abbrev pub block_line : BlockRow → List ℕ
@@ -49,3 +46,8 @@ lines_of line (row ∷ rows) = (line row ++ (10 ∷ [])) ++ lines_of line rows
 abbrev pub text_of_listing : Listing → List ℕ
 text_of_listing listing =
     (lines_of block_line (vec_items listing.blocks) ++ lines_of word_line (vec_items listing.words)) ++ (decimal listing.data_bytes ++ (10 ∷ []))
+
+-- why there is no listing
+abbrev pub error_text : ListError → List ℕ
+error_text (Refused refusal) = refusal_text refusal
+error_text OutOfMemory = codes "out of memory"

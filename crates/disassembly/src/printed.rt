@@ -1,6 +1,6 @@
 // All that is printed of an image.
 ghost use Rattle.std.specs.Prelude.{◌≡◌, IfOk, string_bytes};
-ghost use Rattle.disassembly.specs.Printed.{ToldBy, printed};
+ghost use Rattle.disassembly.specs.Printed.{printed};
 
 use crate::lister::list;
 use crate::rows::ListError;
@@ -18,20 +18,8 @@ pub fn listing_text(heap: Global, image: &[u8]) -> Result<String, AllocError>
     let mut program = vec![in heap; 0u32; PROGRAM_WORDS]?;
     let mut data = vec![in heap; 0u8; DATA_BYTES]?;
     match list(heap, image, &mut program, &mut data) {
-        Ok(listing) => match listing.text(heap) {
-            Ok(text) => Ok(text),
-            Err(_) => Err(AllocError),
-        },
-        Err(error) => error_line(heap, error),
-    }
-}
-
-// The line of a refusal; want of memory has none.
-fn error_line(heap: Global, error: ListError) -> Result<String, AllocError>
-    ensures { IfOk result (λ text. ToldBy error (string_bytes text)) }
-{
-    match error {
-        ListError::Refused(refusal) => format!(in heap; "{refusal}\n"),
-        ListError::OutOfMemory => Err(AllocError),
+        Ok(listing) => listing.text(heap),
+        Err(ListError::Refused(refusal)) => format!(in heap; "{refusal}\n"),
+        Err(ListError::OutOfMemory) => Err(AllocError),
     }
 }

@@ -1,5 +1,6 @@
 // An example of a listing, and of a refusal.
-use crate::{ListError, list, listing_text};
+use crate::{BlockRow, ListError, list, listing_text};
+use image::{Block, Kind};
 use std::test::Fail;
 
 // Two program words at address 8, then the second of them again, and the end.
@@ -17,9 +18,7 @@ fn image() -> [u8; 1536] {
 fn lists_what_a_block_wrote(rt: HostRuntime) -> Result<(), Fail> {
     let mut program = [0; 8];
     let mut data = [0; 4];
-    let Ok(listing) = list(rt.alloc(), &image(), &mut program, &mut data) else {
-        return Err(Fail::new("the image breaks no rule"));
-    };
+    let listing = list(rt.alloc(), &image(), &mut program, &mut data)?;
     let text = listing.text(rt.alloc())?;
     assert!(rt;
         text.as_str()
@@ -45,5 +44,29 @@ fn a_refusal_changes_nothing(rt: HostRuntime) -> Result<(), Fail> {
     };
     assert!(rt; refusal.fault.number() == 8 && refusal.block == 0);
     assert!(rt; program == [7; 2]);
+    Ok(())
+}
+
+#[test]
+fn a_row_says_where_a_block_goes(rt: HostRuntime) {
+    let block = Block {
+        place: 1,
+        kind: Kind::Data,
+        address: 4,
+        payload: &[7, 8],
+    };
+    let row = BlockRow {
+        place: 1,
+        kind: Kind::Data,
+        address: 4,
+        count: 2,
+    };
+    assert!(rt; BlockRow::from(block) == row);
+}
+
+#[test]
+fn want_of_memory_is_told(rt: HostRuntime) -> Result<(), Fail> {
+    let text = format!(in rt.alloc(); "{}", ListError::OutOfMemory)?;
+    assert!(rt; text.as_str() == "out of memory");
     Ok(())
 }

@@ -2,5 +2,4 @@ pub mod Bits
 pub mod Signs
 pub mod Results
 pub mod Shifting
-pub mod Asking
 pub mod Interrupting

@@ -5,8 +5,10 @@ ghost use Rattle.execute.specs.Shifts.{shift_of, MovesBits};
 ghost use Rattle.execute.specs.Tests.{any_holds, test_of, TestAnswers};
 
 use instruction::{AluOp, Relations, ShiftOp};
+use std::cmp::Ordering;
 
 // The result, and whether a signed sum or difference overflows.
+// A pair, as `overflowing_add` gives: each part always means something, so an Option or a Result would be no plainer.
 pub fn alu(op: AluOp, a: u32, b: u32) -> (u32, bool)
     ensures value { result.0 ≡ alu_value op a b }
     ensures overflow { result.1 ≡ alu_overflows op a b }
@@ -57,18 +59,16 @@ pub fn test(asked: Relations, a: u32, b: u32) -> u32
     ensures value { result ≡ test_of asked a b }
     ensures law { TestAnswers asked a b result }
 {
-    holds(asked, a.cast_signed(), b.cast_signed()) as u32
+    u32::from(holds(asked, a.cast_signed(), b.cast_signed()))
 }
 
 fn holds(asked: Relations, a: i32, b: i32) -> bool
     ensures { result ≡ any_holds asked a b }
 {
-    if a > b {
-        asked.greater
-    } else if a == b {
-        asked.equal
-    } else {
-        asked.less
+    match a.cmp(&b) {
+        Ordering::Greater => asked.greater,
+        Ordering::Equal => asked.equal,
+        Ordering::Less => asked.less,
     }
 }
 

@@ -13,15 +13,13 @@ pub fn link(next_pc: u32) -> u32
 }
 
 // How an instruction goes on.
+// A function, as `constant` is: `Flow::from(instruction)` would be no shorter, and no other type has a flow.
 pub fn flow(instruction: Instruction) -> Flow
     ensures value { result ≡ flow_of instruction }
     ensures law { result ≡ flow_by_opcode (opcode_of instruction) }
 {
     match instruction {
-        Instruction::Branch { when, .. } => match when {
-            Condition::Zero => Flow::BranchIfZero,
-            Condition::NotZero => Flow::BranchIfNotZero,
-        },
+        Instruction::Branch { when, .. } => Flow::Branch(when),
         Instruction::JumpRegister { .. } => Flow::Register,
         Instruction::Jump { .. } => Flow::Relative,
         Instruction::ReturnFromException => Flow::Return,
@@ -31,6 +29,7 @@ pub fn flow(instruction: Instruction) -> Flow
 
 // The next pair of addresses. `next_pc` is the second address of the pair of now, `operand` the word of the
 // instruction's first register, and `saved` the pair that an interrupt saved.
+// Pairs of addresses are tuples, the form that is prescribed for them.
 pub fn next_pair(
     flow: Flow,
     next_pc: u32,
@@ -43,9 +42,9 @@ pub fn next_pair(
     let onward = (next_pc, next_pc.wrapping_add(4));
     let jump = (next_pc, next_pc.wrapping_add(constant));
     match flow {
-        Flow::Straight => onward,
-        Flow::BranchIfZero => if operand == 0 { jump } else { onward },
-        Flow::BranchIfNotZero => if operand != 0 { jump } else { onward },
+        Flow::Branch(Condition::Zero) if operand == 0 => jump,
+        Flow::Branch(Condition::NotZero) if operand != 0 => jump,
+        Flow::Straight | Flow::Branch(_) => onward,
         Flow::Register => (next_pc, operand),
         Flow::Relative => jump,
         Flow::Return => saved,

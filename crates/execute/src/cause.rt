@@ -3,20 +3,20 @@ ghost use Rattle.std.specs.Prelude.{◌≡◌};
 ghost use Rattle.execute.specs.Causes.{cause_number, with_cause, BitSet, counted_of, Counted, level_of, Lowest};
 
 // The causes that an instruction itself can have.
-#[derive(Clone, Copy)]
+#[derive(Clone, Copy, Debug, PartialEq, Eq, Hash)]
 pub enum Cause {
     // The word is no instruction.
-    Illegal,
+    Illegal = 1,
     // An address is no multiple of the width that is read or written there.
-    Misaligned,
+    Misaligned = 2,
     // No word of the program is there.
-    NoWord,
+    NoWord = 3,
     // A byte of a load or a store is absent.
-    NoByte,
+    NoByte = 4,
     // The instruction is a trap.
-    Trap,
+    Trap = 5,
     // A signed sum or difference overflows.
-    Overflow,
+    Overflow = 6,
 }
 
 impl Cause {
@@ -24,14 +24,7 @@ impl Cause {
     pub fn number(self) -> u32
         ensures { result ≡ cause_number self }
     {
-        match self {
-            Cause::Illegal => 1,
-            Cause::Misaligned => 2,
-            Cause::NoWord => 3,
-            Cause::NoByte => 4,
-            Cause::Trap => 5,
-            Cause::Overflow => 6,
-        }
+        self as u32
     }
 }
 
@@ -56,9 +49,5 @@ pub fn level(counted: u32) -> Option<u32>
     ensures value { result ≡ level_of counted }
     ensures law { Lowest counted result }
 {
-    if counted == 0 {
-        None
-    } else {
-        Some(counted.trailing_zeros())
-    }
+    (counted != 0).then_some(counted.trailing_zeros())
 }

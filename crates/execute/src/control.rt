@@ -1,12 +1,12 @@
+use instruction::Condition;
+
 // How an instruction goes on.
-#[derive(Clone, Copy)]
+#[derive(Clone, Copy, Debug, PartialEq, Eq, Hash)]
 pub enum Flow {
     // No target: on to the next word.
     Straight,
-    // To the second address plus the constant if the operand is 0: beqz.
-    BranchIfZero,
-    // The same if the operand is not 0: bnez.
-    BranchIfNotZero,
+    // To the second address plus the constant if the operand is as the branch asks: beqz and bnez.
+    Branch(Condition),
     // To the operand: jr and jalr.
     Register,
     // To the second address plus the constant: j and jal.

@@ -1,10 +1,11 @@
 // Immediates and offsets as words: the field is a signed number, and its sign is copied into the bits above it.
-ghost use Rattle.std.specs.Prelude.{◌≡◌, ◌%◌, ◌^◌, ◌<◌, ◌≤◌};
-ghost use Rattle.execute.specs.Extension.{sign_extended, FilledWith, CopiesSign, constant_of};
+ghost use Rattle.std.specs.Prelude.{◌≡◌, ◌<◌, ◌≤◌};
+ghost use Rattle.execute.specs.Extension.{sign_extended, CopiesSign, constant_of};
 
 use instruction::{Immediate, Instruction, Offset};
 
 // The low `width` bits of a word, their highest one copied into the bits above.
+// By shifts, and not through i8 and i16: no type has 26 bits, and so one function serves the widths 8, 16 and 26.
 pub(crate) fn sign_extend(value: u32, width: u32) -> u32
     requires { (0 < width) × (width ≤ 32) }
     ensures value { result ≡ sign_extended width value }
@@ -14,25 +15,15 @@ pub(crate) fn sign_extend(value: u32, width: u32) -> u32
     ((value << unused).cast_signed() >> unused).cast_unsigned()
 }
 
-// The low `width` bits of a word, 0 in the bits above.
-pub(crate) fn zero_extend(value: u32, width: u32) -> u32
-    requires { (0 < width) × (width ≤ 32) }
-    ensures value { result ≡ value % 2 ^ width }
-    ensures law { FilledWith 0 width value result }
-{
-    let unused = 32 - width;
-    value << unused >> unused
-}
-
 // An immediate as a word.
 pub fn extend_immediate(imm: Immediate) -> u32
     ensures value { result ≡ sign_extended 16 imm.bits }
     ensures law { CopiesSign 16 imm.bits result }
 {
-    sign_extend(imm.bits as u32, 16)
+    sign_extend(u32::from(imm.bits), 16)
 }
 
-// An offset as a word.
+// An offset as a word. One call, as for an immediate: a trait over the two fields would be longer than both functions.
 pub fn extend_offset(offset: Offset) -> u32
     ensures value { result ≡ sign_extended 26 offset.bits }
     ensures law { CopiesSign 26 offset.bits result }

@@ -14,7 +14,7 @@ pub use branch::{flow, link, next_pair};
 pub use cause::{Cause, counted, level, with_cause};
 pub use control::Flow;
 pub use extend::{constant, extend_immediate, extend_offset};
-pub use transfer::{Width, effective_address, load_result, load_width, store_width};
+pub use transfer::{Width, effective_address, load_result};
 pub use worked::worked_execution;
 
 #[cfg(test)]

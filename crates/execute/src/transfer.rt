@@ -2,26 +2,23 @@
 ghost use Rattle.std.specs.Prelude.{◌≡◌, Decides};
 ghost use Rattle.execute.specs.Transfer.{width_bytes, width_divides, Multiple, load_width, store_width, address_of, load_result, Loaded};
 
-use crate::extend::{sign_extend, zero_extend};
+use crate::extend::sign_extend;
 use instruction::{LoadKind, StoreKind};
 
 // How many bytes a load or a store moves.
-#[derive(Clone, Copy)]
+#[derive(Clone, Copy, Debug, PartialEq, Eq, Hash)]
 pub enum Width {
-    Byte,
-    Half,
-    Word,
+    Byte = 1,
+    Half = 2,
+    Word = 4,
 }
 
 impl Width {
+    // How many bytes it has.
     pub fn bytes(self) -> u32
         ensures { result ≡ width_bytes self }
     {
-        match self {
-            Width::Byte => 1,
-            Width::Half => 2,
-            Width::Word => 4,
-        }
+        self as u32
     }
 
     // Whether an address is a multiple of the width.
@@ -29,27 +26,31 @@ impl Width {
         ensures value { result ≡ width_divides self address }
         ensures law { Decides result (Multiple (width_bytes self) address) }
     {
-        address % self.bytes() == 0
+        address.is_multiple_of(self.bytes())
     }
 }
 
-pub fn load_width(kind: LoadKind) -> Width
-    ensures { result ≡ load_width kind }
-{
-    match kind {
-        LoadKind::Byte | LoadKind::ByteUnsigned => Width::Byte,
-        LoadKind::Half | LoadKind::HalfUnsigned => Width::Half,
-        LoadKind::Word => Width::Word,
+impl From<LoadKind> for Width {
+    ghost from_gives = { λ kind width. width ≡ load_width kind };
+
+    fn from(kind: LoadKind) -> Width {
+        match kind {
+            LoadKind::Byte | LoadKind::ByteUnsigned => Width::Byte,
+            LoadKind::Half | LoadKind::HalfUnsigned => Width::Half,
+            LoadKind::Word => Width::Word,
+        }
     }
 }
 
-pub fn store_width(kind: StoreKind) -> Width
-    ensures { result ≡ store_width kind }
-{
-    match kind {
-        StoreKind::Byte => Width::Byte,
-        StoreKind::Half => Width::Half,
-        StoreKind::Word => Width::Word,
+impl From<StoreKind> for Width {
+    ghost from_gives = { λ kind width. width ≡ store_width kind };
+
+    fn from(kind: StoreKind) -> Width {
+        match kind {
+            StoreKind::Byte => Width::Byte,
+            StoreKind::Half => Width::Half,
+            StoreKind::Word => Width::Word,
+        }
     }
 }
 
@@ -69,7 +70,7 @@ pub fn load_result(kind: LoadKind, value: u32) -> u32
         LoadKind::Byte => sign_extend(value, 8),
         LoadKind::Half => sign_extend(value, 16),
         LoadKind::Word => value,
-        LoadKind::ByteUnsigned => zero_extend(value, 8),
-        LoadKind::HalfUnsigned => zero_extend(value, 16),
+        LoadKind::ByteUnsigned => value & 0xff,
+        LoadKind::HalfUnsigned => value & 0xffff,
     }
 }

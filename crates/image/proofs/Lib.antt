@@ -1,5 +1,5 @@
-pub mod Zeros
 pub mod Sums
 pub mod Order
 pub mod Walk
 pub mod Cover
+pub mod Chunks

@@ -1,6 +1,7 @@
 -- The image format: blocks of 512 bytes, and the fields of a block. All numbers have their lowest byte first.
-use Rattle.std.specs.Prelude.{ℕ, zero, suc, ◌+◌, ◌*◌, ◌/◌, ◌%◌, ◌^◌, Bool, true, ◌&&◌, List, [], ◌∷◌, length, ◌==◌, slice_index}
-use Rattle.std.specs.List.{between}
+use Rattle.std.specs.Prelude.{ℕ, zero, suc, ◌+◌, ◌*◌, ◌/◌, ◌%◌, ◌^◌, Bool, List, length, codes, ◌==◌, slice_index}
+use Rattle.std.specs.List.{between, list_all}
+use Rattle.image.specs.declared.Ends.{Ends}
 use Rattle.image.specs.declared.Kind.{Kind}
 use Rattle.image.specs.declared.Kind.TheVariants.{Program, Data, End}
 
@@ -16,8 +17,7 @@ abbrev pub word_at : List ℕ → ℕ → ℕ
 word_at bytes k = slice_index bytes k + slice_index bytes (k + 1) * 256 + slice_index bytes (k + 2) * 65536 + slice_index bytes (k + 3) * 16777216
 
 abbrev pub all_zero : List ℕ → Bool
-all_zero [] = true
-all_zero (byte ∷ bytes) = byte == 0 && all_zero bytes
+all_zero = list_all (λ byte. byte == 0)
 
 -- The fields of a block b: its number, its kind and the zero after it, the count of its payload and the address that the payload is for.
 abbrev pub number_of : List ℕ → ℕ
@@ -50,6 +50,18 @@ abbrev pub kind_number : Kind → ℕ
 kind_number Program = 1
 kind_number Data = 2
 kind_number End = 3
+
+-- A kind as it is told.
+abbrev pub kind_text : Kind → List ℕ
+kind_text Program = codes "program"
+kind_text Data = codes "data"
+kind_text End = codes "end"
+
+-- The end of the memory that a block of a kind is for. An end block has none.
+abbrev pub end_for : Kind → Ends → ℕ
+end_for Program ends = ends.program
+end_for Data ends = ends.«data»
+end_for End ends = 0
 
 -- The sum of the first n words, a number that does not wrap; the check should be that of the 127 words before it, modulo 2^32.
 unfoldable pub word_sum : List ℕ → ℕ → ℕ

@@ -1,5 +1,5 @@
 -- What loading an image leaves in the program's words and the data's bytes.
-use Rattle.std.specs.Prelude.{◌≡◌, ℕ, zero, suc, ◌+◌, ◌*◌, ◌/◌, ◌≤◌, cond, List, ◌++◌, length, take, drop, Some, None, Ok, Err, Result, ◌==◌, slice_set}
+use Rattle.std.specs.Prelude.{◌≡◌, ℕ, zero, suc, ◌+◌, ◌*◌, ◌/◌, ◌≤◌, if◌then◌else◌, List, ◌++◌, length, take, drop, Some, None, Ok, Err, Result, ◌==◌, slice_set}
 use Rattle.image.specs.declared.Ends.{Ends}
 use Rattle.image.specs.declared.Refusal.{Refusal}
 use Rattle.image.specs.Format.{block_count, block_at, word_at, kind_byte, address_of, payload_of}
@@ -20,10 +20,10 @@ put_bytes bytes at payload = take at bytes ++ (payload ++ drop (at + length payl
 
 -- One block: kind 1 goes into the program, kind 2 into the data, and an end block into neither.
 abbrev pub words_with : ℕ → ℕ → List ℕ → List ℕ → List ℕ
-words_with kind address payload program = cond (kind == 1) (put_words program (address / 4) payload (length payload / 4)) program
+words_with kind address payload program = if kind == 1 then put_words program (address / 4) payload (length payload / 4) else program
 
 abbrev pub bytes_with : ℕ → ℕ → List ℕ → List ℕ → List ℕ
-bytes_with kind address payload bytes = cond (kind == 2) (put_bytes bytes address payload) bytes
+bytes_with kind address payload bytes = if kind == 2 then put_bytes bytes address payload else bytes
 
 -- Memories of so many words and bytes have room for the block.
 pub record Room (kind address : ℕ) (payload : List ℕ) (words bytes : ℕ) : Type 0 where

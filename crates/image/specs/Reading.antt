@@ -2,12 +2,13 @@
 use Rattle.std.specs.Prelude.{◌≡◌, ℕ, ◌+◌, ◌<◌, ◌≤◌, Bool, true, false, List, length, Some, None, Ok, Err, Option, Result}
 use Rattle.image.specs.declared.Ends.{Ends}
 use Rattle.image.specs.declared.Fault.{Fault}
-use Rattle.image.specs.declared.Fault.TheVariants.{Size}
+use Rattle.image.specs.declared.Fault.TheVariants.{Size, Kind as KindFault}
+use Rattle.image.specs.declared.Kind.{Kind}
 use Rattle.image.specs.declared.Refusal.{Refusal}
 use Rattle.image.specs.declared.block.Block.{Block}
 use Rattle.image.specs.declared.reader.Reader.{Reader}
 use Rattle.image.specs.Format.{block_count, block_at, kind_byte, kind_number, count_of, address_of, payload_of}
-use Rattle.image.specs.Rules.{wrong_size, fault_of, fault_at, refusing}
+use Rattle.image.specs.Rules.{wrong_size, wrong_kind, fault_of, fault_at, refusing}
 
 -- The parts of a reader: its image, the memories' ends, and the place of the next block.
 abbrev pub reader_image : Reader → List ℕ
@@ -26,6 +27,15 @@ pub record Holds (bytes : List ℕ) (at : ℕ) (block : Block) : Type 0 where
   pub address_is : block.address ≡ address_of bytes
   pub payload_is : block.payload.now ≡ payload_of bytes
   pub count_is : length block.payload.now ≡ count_of bytes
+
+-- What the look at one rule answers: what it reads, where the rule is kept, or the rule's fault.
+abbrev pub Ruled : {T : Type 0} → Bool → Fault → (T → Type 0) → Result T Fault → Type 0
+Ruled wrong fault Reads (Ok value) = (wrong ≡ false) × Reads value
+Ruled wrong fault Reads (Err f) = (wrong ≡ true) × (f ≡ fault)
+
+-- The kind that a byte says, where it says one.
+abbrev pub ReadsKind : ℕ → Result Kind Fault → Type 0
+ReadsKind byte = Ruled (wrong_kind byte 0) KindFault (λ kind. kind_number kind ≡ byte)
 
 -- A block read from its bytes, or the first rule that it breaks.
 abbrev pub Parsed : List ℕ → ℕ → Bool → Ends → Result Block Fault → Type 0

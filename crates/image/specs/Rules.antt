@@ -1,5 +1,5 @@
 -- The rules of an image: what breaks each, in which order they are looked at, and which refusal an image gets.
-use Rattle.std.specs.Prelude.{ℕ, zero, suc, ◌+◌, ◌%◌, Bool, cond, not, ◌&&◌, ◌||◌, List, [], ◌∷◌, ◌++◌, length, Some, None, Ok, Err, codes, decimal, Option, Result, ◌==◌, nat_lt}
+use Rattle.std.specs.Prelude.{ℕ, zero, suc, ◌+◌, ◌%◌, Bool, if◌then◌else◌, not, ◌&&◌, ◌||◌, List, [], ◌∷◌, ◌++◌, length, Some, None, Ok, Err, codes, decimal, Option, Result, ◌==◌, nat_lt}
 use Rattle.std.specs.Option.{option_map}
 use Rattle.image.specs.declared.Ends.{Ends}
 use Rattle.image.specs.declared.Fault.{Fault}
@@ -51,7 +51,7 @@ wrong_rest b = not (all_zero (rest_of b))
 
 -- End: an end block stands before the last block, or the last block is no end block.
 abbrev pub wrong_end : ℕ → Bool → Bool
-wrong_end kind last = cond (kind == 3) (not last) last
+wrong_end kind last = if kind == 3 then not last else last
 
 abbrev pub is_last : List ℕ → ℕ → Bool
 is_last image place = place + 1 == block_count image
@@ -71,7 +71,7 @@ breaks image ends place End = wrong_end (kind_byte (block_at image place)) (is_l
 -- The first rule that a block breaks.
 abbrev pub first_of : List (Bool × Fault) → Option Fault
 first_of [] = None
-first_of (rule ∷ rules) = cond rule.0 (Some rule.1) (first_of rules)
+first_of (rule ∷ rules) = if rule.0 then Some rule.1 else first_of rules
 
 unfoldable pub fault_of : List ℕ → ℕ → Bool → Ends → Option Fault
 fault_of b place last ends =
@@ -104,7 +104,7 @@ refusal_below image ends (suc n) = or_else (refusal_below image ends n) (refusin
 
 -- The refusal that an image gets. A wrong size names block 0.
 abbrev pub first_refusal : List ℕ → Ends → Option Refusal
-first_refusal image ends = cond (wrong_size image) (refusing 0 (Some Size)) (refusal_below image ends (block_count image))
+first_refusal image ends = if wrong_size image then refusing 0 (Some Size) else refusal_below image ends (block_count image)
 
 -- The refusal that an answer holds.
 abbrev pub refusal_in : {T : Type 0} → Result T Refusal → Option Refusal

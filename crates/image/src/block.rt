@@ -1,19 +1,19 @@
 // One block, read from its 512 bytes by the rules.
-ghost use Rattle.std.specs.Prelude.{◌≡◌, ◌≤◌, true, false, length, MatchOption, ◌==◌};
-ghost use Rattle.image.specs.Format.{kind_number, count_of};
-ghost use Rattle.image.specs.Rules.{wrong_kind, wrong_count, wrong_address, wrong_rest, wrong_end};
-ghost use Rattle.image.specs.Reading.{Parsed};
+ghost use Rattle.std.specs.Prelude.{◌≡◌, ◌≤◌, false};
+ghost use Rattle.image.specs.Format.{kind_number, kind_byte, zero_byte, count_of, address_of, payload_of};
+ghost use Rattle.image.specs.Rules.{wrong_check, wrong_number, wrong_kind, wrong_count, wrong_address, wrong_rest, wrong_end};
+ghost use Rattle.image.specs.Reading.{Parsed, Ruled};
 
-use crate::bytes::{CHECK_AT, all_zero, word_at, word_sum};
+use crate::bytes::{BLOCK, CHECK_AT, all_zero, word_at, word_sum};
 use crate::{Ends, Fault, Kind};
 
 // Where the payload begins, and the most bytes that it may have.
 const PAYLOAD_AT: usize = 12;
 
-const PAYLOAD_MAX: usize = 496;
+const PAYLOAD_MAX: u16 = 496;
 
 // A block that breaks no rule. Its payload is a part of the image.
-#[derive(Clone, Copy)]
+#[derive(Clone, Copy, Debug, PartialEq, Eq, Hash)]
 pub struct Block<'a> {
     pub place: usize,
     pub kind: Kind,
@@ -22,39 +22,22 @@ pub struct Block<'a> {
 }
 
 // The block in `bytes`, or the first rule that it breaks. `last`: it is the image's last block.
+#[tactic(auto, unfolding(crate::specs::Rules::fault_of))]
 pub(crate) fn parse<'a>(
-    bytes: &'a [u8],
+    bytes: &'a [u8; BLOCK],
     place: usize,
     last: bool,
     ends: Ends,
 ) -> Result<Block<'a>, Fault>
-    requires { length bytes.now ≡ 512 }
     ensures { Parsed bytes.now place last ends result }
 {
-    if word_at(bytes, CHECK_AT) != word_sum(bytes) {
-        return Err(Fault::Check);
-    }
-    if word_at(bytes, 0) as usize != place {
-        return Err(Fault::Number);
-    }
-    let Some(kind) = kind_of(bytes[4], bytes[5]) else {
-        return Err(Fault::Kind);
-    };
-    let count = count_of(bytes);
-    if wrong_count(kind, count) {
-        return Err(Fault::Count);
-    }
-    let address = word_at(bytes, 8);
-    if wrong_address(kind, address, count, ends) {
-        return Err(Fault::Address);
-    }
-    if wrong_rest(bytes, count) {
-        return Err(Fault::Stray);
-    }
-    if wrong_end(kind, last) {
-        return Err(Fault::End);
-    }
-    let payload = &bytes[PAYLOAD_AT..PAYLOAD_AT + count];
+    verify_check(bytes)?;
+    verify_number(bytes, place)?;
+    let kind = read_kind(bytes)?;
+    let count = read_count(bytes, kind)?;
+    let address = read_address(bytes, kind, count, ends)?;
+    let payload = read_payload(bytes, count)?;
+    verify_end(kind, last)?;
     Ok(Block {
         place,
         kind,
@@ -63,64 +46,76 @@ pub(crate) fn parse<'a>(
     })
 }
 
+fn verify_check(bytes: &[u8; BLOCK]) -> Result<(), Fault>
+    ensures { Ruled (wrong_check bytes.now) Fault.Check (λ _. Unit {0}) result }
+{
+    if word_at(bytes, CHECK_AT) != word_sum(bytes) {
+        return Err(Fault::Check);
+    }
+    Ok(())
+}
+
+fn verify_number(bytes: &[u8; BLOCK], place: usize) -> Result<(), Fault>
+    ensures { Ruled (wrong_number bytes.now place) Fault.Number (λ _. Unit {0}) result }
+{
+    if word_at(bytes, 0) as usize != place {
+        return Err(Fault::Number);
+    }
+    Ok(())
+}
+
 // The kind that byte 4 says, where byte 5 is 0.
-fn kind_of(kind: u8, zero: u8) -> Option<Kind>
-    ensures { MatchOption result (wrong_kind kind zero ≡ true) (λ k. (wrong_kind kind zero ≡ false) × (kind_number k ≡ kind)) }
+fn read_kind(bytes: &[u8; BLOCK]) -> Result<Kind, Fault>
+    ensures { Ruled (wrong_kind (kind_byte bytes.now) (zero_byte bytes.now)) Fault.Kind (λ kind. kind_number kind ≡ kind_byte bytes.now) result }
 {
-    match (kind, zero) {
-        (1, 0) => Some(Kind::Program),
-        (2, 0) => Some(Kind::Data),
-        (3, 0) => Some(Kind::End),
-        _ => None,
+    if bytes[5] != 0 {
+        return Err(Fault::Kind);
     }
+    Kind::try_from(bytes[4])
 }
 
-fn is_end(kind: Kind) -> bool
-    ensures { result ≡ (kind_number kind == 3) }
+// The number of payload bytes; an end block has none.
+fn read_count(bytes: &[u8; BLOCK], kind: Kind) -> Result<u16, Fault>
+    ensures { Ruled (wrong_count (kind_number kind) (count_of bytes.now)) Fault.Count (λ count. count ≡ count_of bytes.now) result }
 {
-    match kind {
-        Kind::Program | Kind::Data => false,
-        Kind::End => true,
+    let count = u16::from_le_bytes([bytes[6], bytes[7]]);
+    if count > PAYLOAD_MAX || count % 4 != 0 || kind == Kind::End && count != 0 {
+        return Err(Fault::Count);
     }
+    Ok(count)
 }
 
-fn count_of(bytes: &[u8]) -> usize
-    requires { length bytes.now ≡ 512 }
-    ensures { result ≡ count_of bytes.now }
-{
-    usize::from(u16::from_le_bytes([bytes[6], bytes[7]]))
-}
-
-fn wrong_count(kind: Kind, count: usize) -> bool
-    ensures { result ≡ wrong_count (kind_number kind) count }
-{
-    count > PAYLOAD_MAX || count % 4 != 0 || is_end(kind) && count != 0
-}
-
-// Whether a payload of `count` bytes may not stand at `address`; an end block has no memory.
-fn wrong_address(kind: Kind, address: u32, count: usize, ends: Ends) -> bool
+// The address of a payload of `count` bytes.
+fn read_address(bytes: &[u8; BLOCK], kind: Kind, count: u16, ends: Ends) -> Result<u32, Fault>
     requires { wrong_count (kind_number kind) count ≡ false }
-    ensures { result ≡ wrong_address (kind_number kind) address count ends }
+    ensures { Ruled (wrong_address (kind_number kind) (address_of bytes.now) count ends) Fault.Address (λ address. address ≡ address_of bytes.now) result }
 {
-    let end = match kind {
-        Kind::Program => ends.program,
-        Kind::Data => ends.data,
-        Kind::End => 0,
-    };
-    address % 4 != 0 || address as usize + count > end
+    let address = word_at(bytes, 8);
+    if address % 4 != 0 || address as usize + usize::from(count) > ends.end_for(kind) {
+        return Err(Fault::Address);
+    }
+    Ok(address)
 }
 
-// Whether a payload byte beyond the count is not 0.
-fn wrong_rest(bytes: &[u8], count: usize) -> bool
-    requires { (length bytes.now ≡ 512) × ((count ≡ count_of bytes.now) × (count ≤ 496)) }
-    ensures { result ≡ wrong_rest bytes.now }
+// The payload. The bytes beyond it, up to the check, are 0.
+fn read_payload<'a>(bytes: &'a [u8; BLOCK], count: u16) -> Result<&'a [u8], Fault>
+    requires is_count { count ≡ count_of bytes.now }
+    requires fits { count ≤ 496 }
+    ensures { Ruled (wrong_rest bytes.now) Fault.Stray (λ payload. payload.now ≡ payload_of bytes.now) result }
 {
-    !all_zero(&bytes[PAYLOAD_AT + count..CHECK_AT])
+    let count = usize::from(count);
+    if !all_zero(&bytes[PAYLOAD_AT + count..CHECK_AT]) {
+        return Err(Fault::Stray);
+    }
+    Ok(&bytes[PAYLOAD_AT..PAYLOAD_AT + count])
 }
 
 // An end block stands last, and nothing else does.
-fn wrong_end(kind: Kind, last: bool) -> bool
-    ensures { result ≡ wrong_end (kind_number kind) last }
+fn verify_end(kind: Kind, last: bool) -> Result<(), Fault>
+    ensures { Ruled (wrong_end (kind_number kind) last) Fault.End (λ _. Unit {0}) result }
 {
-    is_end(kind) != last
+    if (kind == Kind::End) != last {
+        return Err(Fault::End);
+    }
+    Ok(())
 }

@@ -8,20 +8,20 @@ pub(crate) const BLOCK: usize = 512;
 pub(crate) const CHECK_AT: usize = 508;
 
 // The word at a place.
-pub(crate) fn word_at(bytes: &[u8], at: usize) -> u32
-    requires { at + 4 ≤ length bytes.now }
+pub(crate) fn word_at(bytes: &[u8; BLOCK], at: usize) -> u32
+    requires { at + 4 ≤ 512 }
     ensures { result ≡ word_at bytes.now at }
 {
     u32::from_le_bytes([bytes[at], bytes[at + 1], bytes[at + 2], bytes[at + 3]])
 }
 
 // The check that a block should have: each byte counts by its place in its word.
-pub(crate) fn word_sum(block: &[u8]) -> u32
-    requires { length block.now ≡ 512 }
-    ensures { result ≡ wanted_check block.now }
+pub(crate) fn word_sum(bytes: &[u8; BLOCK]) -> u32
+    ensures { result ≡ wanted_check bytes.now }
 {
-    let words = &block[0..CHECK_AT];
+    let words = &bytes[0..CHECK_AT];
     let mut sum = 0u32;
+    // A form prescribed for the check: a loop over the bytes, with a sum that wraps.
     for (i, byte) in words.iter().enumerate() {
         sum = sum.wrapping_add(u32::from(*byte) << (8 * (i % 4)));
     }
@@ -32,10 +32,5 @@ pub(crate) fn word_sum(block: &[u8]) -> u32
 pub(crate) fn all_zero(bytes: &[u8]) -> bool
     ensures { result ≡ all_zero bytes.now }
 {
-    for byte in bytes {
-        if *byte != 0 {
-            return false;
-        }
-    }
-    true
+    bytes.iter().all(|byte| *byte == 0)
 }

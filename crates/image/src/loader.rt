@@ -6,7 +6,6 @@ ghost use Rattle.image.specs.Load.{put_words, put_bytes, words_with, bytes_with,
 ghost use Rattle.image.specs.Laws.{Accepted, LoadLaw};
 
 use crate::block::Block;
-use crate::bytes::word_at;
 use crate::reader::{Reader, check};
 use crate::{Ends, Kind, Refusal};
 
@@ -16,25 +15,20 @@ pub fn load(image: &[u8], program: &mut [u32], data: &mut [u8]) -> Result<(), Re
     ensures answer { Loaded image.now program.old «data».old result program.new «data».new }
     ensures law { LoadLaw image.now program.old «data».old result program.new «data».new }
 {
-    let ends = Ends {
-        program: 4 * program.len(),
-        data: data.len(),
-    };
-    check(image, ends)?;
-    put_blocks(image, ends, program, data)
+    check(image, Ends::of(program, data))?;
+    put_blocks(image, program, data)
 }
 
-// Puts the blocks of an accepted image, so that no step of the reader refuses.
-fn put_blocks(image: &[u8], ends: Ends, program: &mut [u32], data: &mut [u8]) -> Result<(), Refusal>
-    requires fit { ends ≡ ends_of program.old «data».old }
-    requires unrefused { first_refusal image.now ends ≡ None }
-    requires accepted { Accepted image.now ends }
+// Puts the blocks of an accepted image, so that no block is refused.
+// The two memories stay two slices, as `load` is given them: a struct would be made for this one call.
+fn put_blocks(image: &[u8], program: &mut [u32], data: &mut [u8]) -> Result<(), Refusal>
+    requires unrefused { first_refusal image.now (ends_of program.old «data».old) ≡ None }
+    requires accepted { Accepted image.now (ends_of program.old «data».old) }
     ensures answer { Loaded image.now program.old «data».old result program.new «data».new }
     ensures law { LoadLaw image.now program.old «data».old result program.new «data».new }
 {
-    let mut reader = Reader::new(image, ends)?;
-    while let Some(block) = reader.next()? {
-        put_block(&block, program, data);
+    for block in Reader::new(image, Ends::of(program, data))? {
+        put_block(&block?, program, data);
     }
     Ok(())
 }
@@ -56,8 +50,10 @@ fn put_words(program: &mut [u32], at: usize, payload: &[u8])
     requires { at + length payload.now / 4 ≤ length program.old }
     ensures { program.new ≡ put_words program.old at payload.now (length payload.now / 4) }
 {
-    for i in 0..payload.len() / 4 {
-        program[at + i] = word_at(payload, 4 * i);
+    let (words, _) = payload.as_chunks::<4>();
+    // Over `program[at..].iter_mut().zip(words)` the goal `returns` stays: a proof knows no word that was written through it.
+    for (i, word) in words.iter().enumerate() {
+        program[at + i] = u32::from_le_bytes(*word);
     }
 }
 

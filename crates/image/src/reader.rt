@@ -1,7 +1,8 @@
 // The blocks of an image, one after the other.
-ghost use Rattle.std.specs.Prelude.{◌≡◌};
+ghost use Rattle.std.specs.Prelude.{◌≡◌, Some};
 ghost use Rattle.image.specs.Rules.{first_refusal, refusal_in, told_by, told_of};
 ghost use Rattle.image.specs.Reading.{Opened, Stepped};
+ghost use Rattle.image.specs.Blocks.{reader_of, Yielded, blocks_left};
 ghost use Rattle.image.specs.Laws.{Judged};
 
 use crate::block::{Block, parse};
@@ -12,7 +13,7 @@ use crate::{Ends, Fault, Refusal};
 pub const IMAGE_MAX: usize = 65536;
 
 // An image of a right size, and how far it is read.
-#[derive(Drop)]
+#[derive(Clone, Debug, PartialEq, Eq, Hash, Drop)]
 pub struct Reader<'a> {
     image: &'a [u8],
     ends: Ends,
@@ -38,27 +39,58 @@ impl<'a> Reader<'a> {
         })
     }
 
-    // The next block, or nothing past the last. A refusal leaves the reader where it was.
+    // The next block, or nothing past the last. A refusal leaves the reader where it was, so that it comes again.
     pub fn next(&mut self) -> Result<Option<Block<'a>>, Refusal>
         ensures { Stepped self.old result self.new }
     {
         let place = self.place;
-        let count = self.image.len() / BLOCK;
-        if place >= count {
+        let (blocks, _) = self.image.as_chunks::<BLOCK>();
+        let Some(bytes) = blocks.get(place) else {
             return Ok(None);
+        };
+        let last = place + 1 == blocks.len();
+        let block = parse(bytes, place, last, self.ends).map_err(|fault| Refusal {
+            fault,
+            block: place,
+        })?;
+        self.place = place + 1;
+        Ok(Some(block))
+    }
+}
+
+impl<'a> IntoIterator for Reader<'a> {
+    type Item = Result<Block<'a>, Refusal>;
+
+    type IntoIter = Blocks<'a>;
+
+    ghost into_iter_gives = { λ reader blocks. reader_of blocks ≡ Some reader };
+
+    fn into_iter(self) -> Blocks<'a> {
+        Blocks { reader: Some(self) }
+    }
+}
+
+// The blocks from a reader's place on. A refusal ends them, since an iterator must come to an end, and a reader gives the
+// refusal again each time.
+#[derive(Clone, Debug, PartialEq, Eq, Hash, Drop)]
+pub struct Blocks<'a> {
+    reader: Option<Reader<'a>>,
+}
+
+impl<'a> Iterator for Blocks<'a> {
+    type Item = Result<Block<'a>, Refusal>;
+
+    ghost next_gives = { Yielded };
+
+    ghost remaining = { blocks_left };
+
+    fn next(&mut self) -> Option<Result<Block<'a>, Refusal>> {
+        let mut reader = self.reader.take()?;
+        let step = reader.next();
+        if let Ok(Some(_)) = step {
+            self.reader = Some(reader);
         }
-        let start = BLOCK * place;
-        let bytes = &self.image[start..start + BLOCK];
-        match parse(bytes, place, place + 1 == count, self.ends) {
-            Ok(block) => {
-                self.place = place + 1;
-                Ok(Some(block))
-            }
-            Err(fault) => Err(Refusal {
-                fault,
-                block: place,
-            }),
-        }
+        step.transpose()
     }
 }
 
@@ -68,7 +100,8 @@ pub fn check(image: &[u8], ends: Ends) -> Result<(), Refusal>
     ensures answer { refusal_in result ≡ first_refusal image.now ends }
     ensures law { Judged image.now ends result }
 {
-    let mut reader = Reader::new(image, ends)?;
-    while let Some(_block) = reader.next()? {}
+    for block in Reader::new(image, ends)? {
+        block?;
+    }
     Ok(())
 }

@@ -18,10 +18,9 @@ fn image() -> [u8; 1024] {
 
 // The number and the block of a refusal, or zeros.
 fn numbers(answer: Result<(), Refusal>) -> (u8, usize) {
-    match answer {
-        Ok(()) => (0, 0),
-        Err(refusal) => (refusal.fault.number(), refusal.block),
-    }
+    answer
+        .err()
+        .map_or((0, 0), |refusal| (refusal.fault.number(), refusal.block))
 }
 
 #[test]
@@ -30,16 +29,38 @@ fn faults_have_numbers(rt: HostRuntime) {
 }
 
 #[test]
+fn kinds_have_bytes_and_names(rt: HostRuntime) -> Result<(), Fail> {
+    assert_eq!(rt; Kind::try_from(2), Ok(Kind::Data));
+    assert_eq!(rt; Kind::try_from(4), Err(Fault::Kind));
+    assert!(rt; format!(in rt.alloc(); "{}", Kind::End)?.as_str() == "end");
+    Ok(())
+}
+
+#[test]
+fn memories_have_ends(rt: HostRuntime) {
+    assert_eq!(rt; Ends::of(&[7; 3], &[]), ENDS);
+}
+
+#[test]
 fn reads_blocks(rt: HostRuntime) -> Result<(), Fail> {
     let image = image();
-    let Ok(mut reader) = Reader::new(&image, ENDS) else {
-        return Err(Fail::new("the size is right"));
-    };
-    let Ok(Some(block)) = reader.next() else {
-        return Err(Fail::new("the first block is sound"));
-    };
-    assert!(rt; block.place == 0 && block.kind as u8 == Kind::Program as u8);
+    let mut reader = Reader::new(&image, ENDS)?;
+    let block = reader.next()?.ok_or("the first block is sound")?;
+    assert!(rt; block.place == 0 && block.kind == Kind::Program);
     assert!(rt; block.address == 8 && block.payload == [1, 2, 3, 4].as_slice());
+    Ok(())
+}
+
+#[test]
+fn blocks_end_at_a_refusal(rt: HostRuntime) -> Result<(), Fail> {
+    let mut image = image();
+    image[1020] = 5;
+    let mut blocks = Reader::new(&image, ENDS)?.into_iter();
+    let first = blocks.next().ok_or("the first block is there")?;
+    assert!(rt; first?.address == 8);
+    let second = blocks.next().ok_or("the second block is there")?;
+    assert!(rt; numbers(second.map(drop)) == (4, 1));
+    assert!(rt; blocks.next().is_none());
     Ok(())
 }
 

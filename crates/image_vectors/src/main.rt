@@ -8,6 +8,7 @@ use anyhow::anyhow;
 use image::load;
 use std::alloc::Global;
 use std::io::{BufRead, BufReader};
+use std::str::SplitWhitespace;
 
 // The image that is worked on, and the memories.
 #[derive(Drop)]
@@ -38,21 +39,19 @@ fn run(rt: &HostRuntime) -> anyhow::Result<()> {
 }
 
 impl Bench {
+    // A match on the command: each reads other words of the line, so a table of closures would be no plainer.
     fn follow(&mut self, heap: Global, line: &str) -> anyhow::Result<()> {
         let mut words = line.split_whitespace();
         match words.next().unwrap_or("") {
-            "new" => self.image = vec![in heap; 0; words.next().unwrap_or("").parse::<usize>()?]?,
+            "new" => self.image = vec![in heap; 0; number(&mut words)?]?,
             "set" => {
-                let offset = words.next().unwrap_or("").parse::<usize>()?;
+                let offset = number(&mut words)?;
                 self.set(offset, words.next().unwrap_or("").as_bytes());
             }
-            "sum" => write_sum(
-                &mut self.image,
-                words.next().unwrap_or("").parse::<usize>()?,
-            ),
+            "sum" => self.write_sum(number(&mut words)?),
             "room" => {
-                self.program = vec![in heap; 0; words.next().unwrap_or("").parse::<usize>()?]?;
-                self.data = vec![in heap; 0; words.next().unwrap_or("").parse::<usize>()?]?;
+                self.program = vec![in heap; 0; number(&mut words)?]?;
+                self.data = vec![in heap; 0; number(&mut words)?]?;
             }
             "try" => self.try_image()?,
             _ => return Err(anyhow!("no such command")),
@@ -60,22 +59,30 @@ impl Bench {
         Ok(())
     }
 
+    // Writes bytes that lie within the image.
     fn set(&mut self, offset: usize, digits: &[u8]) {
-        let mut at = offset;
-        for pair in digits.chunks_exact(2) {
-            if let ([high, low], Some(byte)) = (pair, self.image.get_mut(at)) {
-                *byte = nibble(*high) << 4 | nibble(*low);
-            }
-            at = at.saturating_add(1);
+        let (pairs, _) = digits.as_chunks::<2>();
+        for (byte, [high, low]) in self.image.iter_mut().skip(offset).zip(pairs) {
+            *byte = nibble(*high) << 4 | nibble(*low);
         }
+    }
+
+    // Writes the check of a block that lies within the image.
+    fn write_sum(&mut self, block: usize) {
+        let (blocks, _) = self.image.as_chunks_mut::<512>();
+        let Some(block) = blocks.get_mut(block) else {
+            return;
+        };
+        let sum = word_sum(&block[..508]);
+        block[508..].copy_from_slice(&sum.to_le_bytes());
     }
 
     fn try_image(&mut self) -> anyhow::Result<()> {
         self.program.fill(0);
         self.data.fill(0);
         let answer = load(&self.image, &mut self.program, &mut self.data);
-        let words = weighed_words(&self.program);
-        let bytes = weighed_bytes(&self.data);
+        let words = weighed(&self.program);
+        let bytes = weighed(&self.data);
         match answer {
             Ok(()) => writeln!(self.answers, "loaded {words} {bytes}")?,
             Err(_) if words != 0 || bytes != 0 => writeln!(
@@ -88,46 +95,29 @@ impl Bench {
     }
 }
 
-// Writes the check of a block that lies within the image.
-fn write_sum(image: &mut [u8], block: usize) {
-    let start = block.saturating_mul(512);
-    if start > image.len() || image.len() - start < 512 {
-        return;
-    }
-    let mut sum = 0u32;
-    for word in image[start..start + 508].chunks_exact(4) {
-        if let [a, b, c, d] = word {
-            sum = sum.wrapping_add(u32::from_le_bytes([*a, *b, *c, *d]));
-        }
-    }
-    image[start + 508..start + 512].copy_from_slice(&sum.to_le_bytes());
+// The next word of a line, as a number.
+fn number(words: &mut SplitWhitespace) -> anyhow::Result<usize> {
+    Ok(words.next().unwrap_or("").parse()?)
 }
 
+// A hexadecimal digit's value, or 0 for another character.
 fn nibble(digit: u8) -> u8 {
-    match digit {
-        b'0'..=b'9' => digit - b'0',
-        b'a'..=b'f' => digit - b'a' + 10,
-        _ => 0,
-    }
+    char::from(digit).to_digit(16).unwrap_or(0) as u8
 }
 
-// The sum of the words, each times its place from 1, modulo 2^32.
-fn weighed_words(words: &[u32]) -> u32 {
-    let mut sum = 0u32;
-    let mut weight = 1u32;
-    for word in words {
-        sum = sum.wrapping_add(weight.wrapping_mul(*word));
-        weight = weight.wrapping_add(1);
-    }
-    sum
+// The sum of the words of four bytes, lowest first, modulo 2^32.
+fn word_sum(bytes: &[u8]) -> u32 {
+    let (words, _) = bytes.as_chunks::<4>();
+    words
+        .iter()
+        .fold(0, |sum, word| sum.wrapping_add(u32::from_le_bytes(*word)))
 }
 
-fn weighed_bytes(bytes: &[u8]) -> u32 {
-    let mut sum = 0u32;
-    let mut weight = 1u32;
-    for byte in bytes {
-        sum = sum.wrapping_add(weight.wrapping_mul(u32::from(*byte)));
-        weight = weight.wrapping_add(1);
-    }
-    sum
+// The sum of the values, each times its place from 1, modulo 2^32.
+fn weighed<T: Copy + Into<u32>>(values: &[T]) -> u32 {
+    values
+        .iter()
+        .zip(1..=u32::MAX)
+        .map(|(value, weight)| weight.wrapping_mul((*value).into()))
+        .fold(0, u32::wrapping_add)
 }

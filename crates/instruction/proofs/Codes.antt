@@ -1,38 +1,26 @@
 -- Each code has its own row in the table.
-use Rattle.std.proofs.Common.{◌≡◌, ℕ, ◌+◌, Bool, true, false, Some, refl}
+use Rattle.std.proofs.Common.{◌≡◌, ℕ, ◌+◌, Bool, true, false, Some, refl, rules, arith}
 use Rattle.instruction.specs.Codes.{load_code, store_code, branch_code, alu_code, shift_code, relations_code, special_number, special_of, bit}
 use Rattle.instruction.specs.Fields.{rs1_field, rd_i_field, rs2_field, rd_r_field, register_at, immediate_of}
 use Rattle.instruction.specs.Table.{by_opcode, by_function, loads, stores, alus_immediate, branches, jumps_register, jumps, shifts_immediate, shifts, alus}
 use Rattle.instruction.specs.declared.instruction.Instruction.TheVariants.{TestImmediate, Test}
 use Rattle.instruction.specs.declared.operation.LoadKind.{LoadKind}
-use Rattle.instruction.specs.declared.operation.LoadKind.TheVariants as load
 use Rattle.instruction.specs.declared.operation.StoreKind.{StoreKind}
-use Rattle.instruction.specs.declared.operation.StoreKind.TheVariants as store
 use Rattle.instruction.specs.declared.operation.AluOp.{AluOp}
 use Rattle.instruction.specs.declared.operation.AluOp.TheVariants as alu
 use Rattle.instruction.specs.declared.operation.ShiftOp.{ShiftOp}
-use Rattle.instruction.specs.declared.operation.ShiftOp.TheVariants as shift
 use Rattle.instruction.specs.declared.operation.Condition.{Condition}
-use Rattle.instruction.specs.declared.operation.Condition.TheVariants as condition
 use Rattle.instruction.specs.declared.operation.Relations.{Relations}
 use Rattle.instruction.specs.declared.operation.SpecialRegister.{SpecialRegister}
-use Rattle.instruction.specs.declared.operation.SpecialRegister.TheVariants.{Sr, Esr, Eca, Epc, Edpc, Edata}
 
 pub load_row : (k : LoadKind) (w : ℕ) → by_opcode (load_code k) w ≡ loads k w
-load_row load.Byte w = refl
-load_row load.Half w = refl
-load_row load.Word w = refl
-load_row load.ByteUnsigned w = refl
-load_row load.HalfUnsigned w = refl
+load_row k w = search rules
 
 pub store_row : (k : StoreKind) (w : ℕ) → by_opcode (store_code k) w ≡ stores k w
-store_row store.Byte w = refl
-store_row store.Half w = refl
-store_row store.Word w = refl
+store_row k w = search rules
 
 pub branch_row : (k : Condition) (w : ℕ) → by_opcode (branch_code k) w ≡ branches k w
-branch_row condition.Zero w = refl
-branch_row condition.NotZero w = refl
+branch_row k w = search rules
 
 pub alu_immediate_row : (k : AluOp) (w : ℕ) → by_opcode (0x08 + alu_code k) w ≡ alus_immediate k w
 alu_immediate_row alu.Add w = refl
@@ -53,14 +41,10 @@ alu_row alu.Or w = refl
 alu_row alu.Xor w = refl
 
 pub shift_immediate_row : (k : ShiftOp) (w : ℕ) → by_function (shift_code k) w ≡ shifts_immediate k w
-shift_immediate_row shift.Left w = refl
-shift_immediate_row shift.Right w = refl
-shift_immediate_row shift.RightArithmetic w = refl
+shift_immediate_row k w = search rules
 
 pub shift_row : (k : ShiftOp) (w : ℕ) → by_function (0x04 + shift_code k) w ≡ shifts k w
-shift_row shift.Left w = refl
-shift_row shift.Right w = refl
-shift_row shift.RightArithmetic w = refl
+shift_row k w = grind arith
 
 pub jump_register_row : (k : Bool) (w : ℕ) → by_opcode (0x16 + bit k) w ≡ jumps_register k w
 jump_register_row true w = refl
@@ -71,12 +55,7 @@ jump_row true w = refl
 jump_row false w = refl
 
 pub special_row : (s : SpecialRegister) → special_of (special_number s) ≡ Some s
-special_row Sr = refl
-special_row Esr = refl
-special_row Eca = refl
-special_row Epc = refl
-special_row Edpc = refl
-special_row Edata = refl
+special_row s = search rules
 
 -- both rows of a test, by the relations that it asks for
 

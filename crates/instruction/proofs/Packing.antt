@@ -39,8 +39,3 @@ register_packed a b d e f ha hb hd he hf =
       or_field (a * 2 ^ 21 + b * 2 ^ 16 + d * 2 ^ 11) 6 5 e (omega arith) he (omega arith),
       or_below (a * 2 ^ 21 + b * 2 ^ 16 + d * 2 ^ 11 + e * 2 ^ 6) 6 f (omega arith) hf,
     )
-
-pub jump_packed : (a e : ℕ) → a < 64 → e < 2 ^ 26 → bit_or ((a * 2 ^ 26) % 2 ^ 32) e ≡ a * 2 ^ 26 + e
-jump_packed a e ha he =
-    let p : (a * 2 ^ 26) % 2 ^ 32 ≡ a * 2 ^ 26 = omega arith in
-    rw (p, or_below (a * 2 ^ 26) 26 e (omega arith) he)

@@ -6,6 +6,9 @@ use Rattle.instruction.specs.declared.field.Register.{Register}
 use Rattle.instruction.specs.declared.field.ShiftAmount.{ShiftAmount}
 use Rattle.instruction.specs.declared.field.Immediate.{Immediate}
 use Rattle.instruction.specs.declared.field.Offset.{Offset}
+use Rattle.instruction.specs.declared.form.IForm.{IForm}
+use Rattle.instruction.specs.declared.form.RForm.{RForm}
+use Rattle.instruction.specs.declared.form.JForm.{JForm}
 
 abbrev Below : ℕ → Type 0
 Below n = (k : ℕ) × (k < n)
@@ -25,3 +28,14 @@ immediate_same a b = same {F = Immediate} {n = 2 ^ 16} (λ p. record { bits = p.
 
 pub offset_same : (a b : Offset) → a.bits ≡ b.bits → a ≡ b
 offset_same a b = same {F = Offset} {n = 2 ^ 26} (λ p. record { bits = p.0; ok = p.1 }) (a.bits, a.ok) (b.bits, b.ok)
+
+-- and so are two forms whose fields have the same values
+
+pub i_form_same : (a b : IForm) → a.rs1 ≡ b.rs1 → a.rd ≡ b.rd → a.imm.bits ≡ b.imm.bits → a ≡ b
+i_form_same a b p q r = λ i. record { rs1 = p i; rd = q i; imm = immediate_same a.imm b.imm r i }
+
+pub r_form_same : (a b : RForm) → a.rs1 ≡ b.rs1 → a.rs2 ≡ b.rs2 → a.rd ≡ b.rd → a.sa.bits ≡ b.sa.bits → a ≡ b
+r_form_same a b p q r s = λ i. record { rs1 = p i; rs2 = q i; rd = r i; sa = amount_same a.sa b.sa s i }
+
+pub j_form_same : (a b : JForm) → a.offset.bits ≡ b.offset.bits → a ≡ b
+j_form_same a b p = λ i. record { offset = offset_same a.offset b.offset p i }

@@ -1,5 +1,5 @@
 -- The code of each operation. Groups that stand in both forms count from their group's first code.
-use Rattle.std.specs.Prelude.{ℕ, ◌+◌, ◌*◌, ◌/◌, ◌%◌, Bool, true, false, cond, List, [], ◌∷◌, Some, None, Option, ◌==◌}
+use Rattle.std.specs.Prelude.{ℕ, ◌+◌, ◌*◌, ◌/◌, ◌%◌, Bool, true, false, List, [], ◌∷◌, find, Option, option_map, ◌==◌}
 use Rattle.instruction.specs.declared.operation.LoadKind.{LoadKind}
 use Rattle.instruction.specs.declared.operation.LoadKind.TheVariants as load
 use Rattle.instruction.specs.declared.operation.StoreKind.{StoreKind}
@@ -71,8 +71,8 @@ special_number Edata = 5
 
 -- what stands beside n in a table, if n does
 abbrev pub found : {X : Type 0} → ℕ → List (ℕ × X) → Option X
-found n [] = None
-found n (row ∷ rows) = cond (n == row.0) (Some row.1) (found n rows)
+found {X} n rows = option_map (λ (row : ℕ × X). row.1) (find (λ (row : ℕ × X). row.0 == n) rows)
 
+-- the special register that has a number, if one has it
 abbrev pub special_of : ℕ → Option SpecialRegister
-special_of n = found n ((0, Sr) ∷ (1, Esr) ∷ (2, Eca) ∷ (3, Epc) ∷ (4, Edpc) ∷ (5, Edata) ∷ [])
+special_of n = find (λ special. special_number special == n) (Sr ∷ Esr ∷ Eca ∷ Epc ∷ Edpc ∷ Edata ∷ [])

@@ -33,5 +33,5 @@ pub record ReadsOnly (w : ℕ) (i : Instruction) : Type 0 where
   pub back : word_of i ≡ kept (layout i) w
 
 -- the answer of reading w: the one instruction that it reads as, or none because it reads as none
-abbrev pub Decides : ℕ → Option Instruction → Type 0
-Decides w answer = MatchOption answer ((i : Instruction) → Reads w i → ⊥) (ReadsOnly w)
+abbrev pub DecodesTo : ℕ → Option Instruction → Type 0
+DecodesTo w answer = MatchOption answer ((i : Instruction) → Reads w i → ⊥) (ReadsOnly w)

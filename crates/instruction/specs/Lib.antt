@@ -1,7 +1,9 @@
 pub mod Fields
+pub mod Forms
 pub mod Codes
 pub mod Table
 pub mod Layout
 pub mod Laws
 pub mod Numbers
 pub mod Worked
+pub mod Text

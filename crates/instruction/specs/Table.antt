@@ -1,10 +1,9 @@
 -- The table of instructions: by its opcode and, where that is 0, its function, a word reads as an instruction or is illegal.
-use Rattle.std.specs.Prelude.{ℕ, ◌/◌, Bool, true, false, cond, List, [], ◌∷◌, Some, None, Option, ◌==◌}
+use Rattle.std.specs.Prelude.{ℕ, ◌/◌, Bool, true, false, if◌then◌else◌, List, [], ◌∷◌, Some, Option, option_map, option_and_then, ◌==◌}
 use Rattle.instruction.specs.Fields.{in_field, opcode_field, rs1_field, rd_i_field, rs2_field, rd_r_field, sa_field, function_field, register_at, amount_at, immediate_of, offset_of}
-use Rattle.instruction.specs.Codes.{relations_at, special_of}
+use Rattle.instruction.specs.Codes.{relations_at, found, special_of}
 use Rattle.instruction.specs.declared.instruction.Instruction.{Instruction}
 use Rattle.instruction.specs.declared.instruction.Instruction.TheVariants.{Load, Store, AluImmediate, LoadHighImmediate, TestImmediate, Branch, JumpRegister, Jump, Trap, ReturnFromException, ShiftImmediate, Shift, ReadSpecial, WriteSpecial, Alu, LoadHigh, Test}
-use Rattle.instruction.specs.declared.operation.SpecialRegister.{SpecialRegister}
 use Rattle.instruction.specs.declared.operation.LoadKind.{LoadKind}
 use Rattle.instruction.specs.declared.operation.LoadKind.TheVariants as load
 use Rattle.instruction.specs.declared.operation.StoreKind.{StoreKind}
@@ -22,8 +21,7 @@ Reader = ℕ → Option Instruction
 
 -- by the row of a code, if there is one
 abbrev pub read_by : List (ℕ × Reader) → ℕ → Reader
-read_by [] code w = None
-read_by (row ∷ rows) code w = cond (code == row.0) (row.1 w) (read_by rows code w)
+read_by rows code w = option_and_then (λ (read : Reader). read w) (found code rows)
 
 -- rows of the I and J forms
 
@@ -79,16 +77,13 @@ shifts_immediate op w = Some (ShiftImmediate op (register_at rd_r_field w) (regi
 abbrev pub shifts : ShiftOp → Reader
 shifts op w = Some (Shift op (register_at rd_r_field w) (register_at rs1_field w) (register_at rs2_field w))
 
--- a special register above 5 is illegal
-abbrev pub with_special : Option SpecialRegister → (SpecialRegister → Instruction) → Option Instruction
-with_special None f = None
-with_special (Some special) f = Some (f special)
+-- where no special register has the number that SA holds, the word is illegal
 
 abbrev pub reads_special : Reader
-reads_special w = with_special (special_of (in_field sa_field w)) (λ special. ReadSpecial (register_at rd_r_field w) special)
+reads_special w = option_map (λ special. ReadSpecial (register_at rd_r_field w) special) (special_of (in_field sa_field w))
 
 abbrev pub writes_special : Reader
-writes_special w = with_special (special_of (in_field sa_field w)) (λ special. WriteSpecial special (register_at rs1_field w))
+writes_special w = option_map (λ special. WriteSpecial special (register_at rs1_field w)) (special_of (in_field sa_field w))
 
 abbrev pub alus : AluOp → Reader
 alus op w = Some (Alu op (register_at rd_r_field w) (register_at rs1_field w) (register_at rs2_field w))
@@ -111,12 +106,12 @@ functions =
 -- the eight tests stand at 0x28 to 0x2f of the functions, and at 0x18 to 0x1f of the opcodes
 
 abbrev pub by_function : ℕ → Reader
-by_function code w = cond (code / 8 == 5) (tests code w) (read_by functions code w)
+by_function code w = if code / 8 == 5 then tests code w else read_by functions code w
 
 abbrev pub by_opcode : ℕ → Reader
 by_opcode code w =
-    cond (code == 0) (by_function (in_field function_field w) w)
-    (cond (code / 8 == 3) (tests_immediate code w) (read_by opcodes code w))
+    if code == 0 then by_function (in_field function_field w) w
+    else if code / 8 == 3 then tests_immediate code w else read_by opcodes code w
 
 -- the instruction of a word, or none where the word is illegal
 unfoldable pub decoded_of : Reader

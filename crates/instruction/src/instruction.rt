@@ -4,7 +4,7 @@ use crate::operation::{
 };
 
 // An instruction with the fields that it uses. `rd` of a store is the register whose value is stored.
-#[derive(Clone, Copy)]
+#[derive(Clone, Copy, Debug, PartialEq, Eq, Hash)]
 pub enum Instruction {
     Load {
         kind: LoadKind,

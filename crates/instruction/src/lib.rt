@@ -4,9 +4,11 @@
 mod decoder;
 mod encoder;
 mod field;
+mod form;
 mod instruction;
 mod number;
 mod operation;
+mod text;
 mod worked;
 
 pub use decoder::decode;

@@ -21,3 +21,8 @@ module _ {M : Type 0} where
   pub value_read : (o : Option ℕ) (m : M) → value_of (option_map (λ (v : ℕ). (v, m)) o) ≡ o
   value_read None m = refl
   value_read (Some v) m = refl
+
+  -- its answer is that of the value, whatever the meaning is
+  pub answer_read : {N : Type 0} (o : Option ℕ) (m : M) (n : N) → answer_of (option_map (λ (v : ℕ). (v, m)) o) ≡ answer_of (option_map (λ (v : ℕ). (v, n)) o)
+  answer_read None m n = refl
+  answer_read (Some v) m n = refl

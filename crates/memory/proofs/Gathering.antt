@@ -2,12 +2,10 @@
 use Rattle.std.proofs.Common.{◌≡◌, ℕ, zero, suc, ◌+◌, ◌*◌, ◌/◌, ◌%◌, ◌^◌, ◌<◌, ◌≤◌, Bool, true, false, cond, ◌≢◌, ◌⊎◌, Some, None, Option, sym, refl, ap, ◌∙◌, subst, inl, inr, div-one, arith}
 use native.Mathlib.Nat.{div-div-eq-div-mul, pow-succ'}
 use Rattle.std.proofs.lemmas.Bool.{eq-eqb, ne_eqb}
+use Rattle.std.proofs.lemmas.Option.{none-some}
 use Rattle.std.specs.Option.{option_map}
 use Rattle.memory.specs.Bytes.{Cells, joined, gathered, replaced, stored, is_aligned, loaded}
 use Rattle.memory.specs.ByteLaws.{byte_of, AreBytes, ByteLaws}
-
-none_some : {A : Type 0} {P : Type 0} (x : A) → None ≡ Some x → P
-none_some x e = let z : ◌≡◌ {A = ℕ} 0 1 = cc in absurd (omega arith)
 
 -- bytes that are equal where they are gathered
 gathered_same : (m n : Cells) (k a : ℕ) → ((i : ℕ) → a ≤ i → i < a + k → m i ≡ n i) → gathered m a k ≡ gathered n a k
@@ -26,8 +24,8 @@ record Parts (low high : Option ℕ) (value : ℕ) : Type 0 where
   whole : byte + 256 * above ≡ value
 
 parts : (low high : Option ℕ) (value : ℕ) → joined low high ≡ Some value → Parts low high value
-parts None high value e = none_some value e
-parts (Some b) None value e = none_some value e
+parts None high value e = absurd (none-some value e)
+parts (Some b) None value e = absurd (none-some value e)
 parts (Some b) (Some a) value e = record { byte = b; above = a; low_is = refl; high_is = refl; whole = cc }
 
 byte_zero : (v : ℕ) → byte_of v 0 ≡ v % 256
@@ -92,7 +90,7 @@ gathered_short (suc n) m small a v e =
 -- an access that is done has gathered its bytes
 gathers : (t : Bool) (need : Option ℕ) (v : ℕ) → cond t need None ≡ Some v → need ≡ Some v
 gathers true need v e = e
-gathers false need v e = none_some v e
+gathers false need v e = absurd (none-some v e)
 
 record Done {M : Type 0} (f : ℕ → ℕ) (m : M) (need : Option ℕ) (answer : ℕ) (after : M) : Type 0 where
   number : ℕ
@@ -102,7 +100,7 @@ record Done {M : Type 0} (f : ℕ → ℕ) (m : M) (need : Option ℕ) (answer :
 
 done : {M : Type 0} (f : ℕ → ℕ) (m : M) (need : Option ℕ) (answer : ℕ) (after : M) → option_map {U = ℕ × M} (λ (n : ℕ). (f n, m)) need ≡ Some (answer, after)
     → Done f m need answer after
-done f m None answer after e = none_some (answer, after) e
+done f m None answer after e = absurd (none-some (answer, after) e)
 done {M} f m (Some n) answer after e =
     let pair : ◌≡◌ {A = ℕ × M} (f n, m) (answer, after) = cc in
     record { number = n; need_is = refl; answer_is = ap (λ (z : ℕ × M). z.0) pair; after_is = ap (λ (z : ℕ × M). z.1) pair }

@@ -1,5 +1,5 @@
 -- Bytes at addresses, and what loads and stores of plain bytes do. A memory means a byte or nothing at each address.
-use Rattle.std.specs.Prelude.{ℕ, zero, suc, ◌+◌, ◌*◌, ◌/◌, ◌%◌, Bool, cond, ◌&&◌, ◌||◌, Some, None, Option, ◌==◌}
+use Rattle.std.specs.Prelude.{ℕ, zero, suc, ◌+◌, ◌*◌, ◌/◌, ◌%◌, Bool, if◌then◌else◌, ◌&&◌, ◌||◌, Some, None, Option, ◌==◌}
 use Rattle.std.specs.Option.{option_map}
 use Rattle.memory.specs.declared.access.Access.{Access}
 use Rattle.memory.specs.declared.access.Access.TheVariants.{Load, Store}
@@ -21,7 +21,7 @@ gathered bytes address (suc n) = joined (bytes address) (gathered bytes (address
 
 -- another byte at an address, where there is one
 abbrev pub replaced : Cells → ℕ → ℕ → Cells
-replaced bytes address byte = λ k. cond (k == address) (option_map (λ _. byte) (bytes k)) (bytes k)
+replaced bytes address byte = λ k. if k == address then option_map (λ _. byte) (bytes k) else bytes k
 
 -- the n low bytes of a value at the n addresses from one on, lowest first
 abbrev pub stored : Cells → ℕ → ℕ → ℕ → Cells
@@ -34,7 +34,7 @@ is_aligned address width = (width == 1 || width == 2 || width == 4) && address %
 
 -- what an access needs, as a number: nothing where it is not aligned or a byte is not there
 abbrev pub loaded : Cells → ℕ → ℕ → Option ℕ
-loaded bytes address width = cond (is_aligned address width) (gathered bytes address width) None
+loaded bytes address width = if is_aligned address width then gathered bytes address width else None
 
 -- plain bytes: a done load answers them and alters nothing, a done store answers 0 and replaces its bytes alone
 abbrev pub plain : Cells → Access → Option (ℕ × Cells)
@@ -43,7 +43,7 @@ plain bytes (Store address width value) = option_map (λ _. (0, stored bytes add
 
 -- a program memory: a done fetch answers the word at a multiple of 4 and alters nothing
 abbrev pub word_at : Cells → ℕ → Option ℕ
-word_at words address = cond (address % 4 == 0) (words address) None
+word_at words address = if address % 4 == 0 then words address else None
 
 abbrev pub fetched : Cells → ℕ → Option (ℕ × Cells)
 fetched words address = option_map (λ word. (word, words)) (word_at words address)

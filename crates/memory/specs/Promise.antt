@@ -1,6 +1,7 @@
 -- What every call of a memory promises, by what the memory means and by the waits that are open.
 use Rattle.std.specs.Prelude.{◌≡◌, ℕ, ◌<◌, true, is_some, Some, None, Option}
-use Rattle.memory.specs.Bytes.{Cells, loaded}
+use Rattle.std.specs.Option.{option_map}
+use Rattle.memory.specs.Bytes.{Cells, loaded, word_at}
 use Rattle.memory.specs.declared.access.Access.{Access}
 use Rattle.memory.specs.declared.access.Access.TheVariants.{Load, Store}
 use Rattle.memory.specs.declared.access.Answer.{Answer}
@@ -10,7 +11,11 @@ use Rattle.memory.specs.declared.access.Answer.TheVariants.{Done, Absent, Wait}
 abbrev pub Effect : Type 0 → Type 0
 Effect M = Option (ℕ × M)
 
--- the answer that is not wait
+-- the answer that is not wait: done with a value, or absent where there is none
+abbrev pub answer_with : Option ℕ → Answer
+answer_with None = Absent
+answer_with (Some value) = Done value
+
 abbrev pub answer_of : {M : Type 0} → Effect M → Answer
 answer_of None = Absent
 answer_of (Some done) = Done done.0
@@ -46,3 +51,7 @@ Grounds shown (Store address width value) (Some done) = is_some (loaded shown ad
 
 abbrev pub Grounded : {M : Type 0} → (M → Access → Effect M) → (M → Cells) → Type 0
 Grounded {M} does shows = (m : M) (x : Access) → Grounds (shows m) x (does m x)
+
+-- A fetch answers the word that is shown at a multiple of 4, or is absent, and alters nothing.
+abbrev pub Fetches : {M : Type 0} → (M → ℕ → Effect M) → (M → Cells) → Type 0
+Fetches {M} does shows = (m : M) (address : ℕ) → does m address ≡ option_map (λ (word : ℕ). (word, m)) (word_at (shows m) address)

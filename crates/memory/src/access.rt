@@ -1,7 +1,10 @@
-// What a data memory is asked, and what a memory answers.
+// What memories are asked, and what they answer.
+ghost use Rattle.std.specs.Prelude.{◌≡◌};
+ghost use Rattle.memory.specs.Promise.{answer_with};
 
 // A load or a store. The width is the number of bytes, lowest first; a memory answers absent where it is not 1, 2 or 4.
-#[derive(Clone, Copy, PartialEq, Eq)]
+// It is a number, and not an enum of the three: a rule of memories says what any other width is answered.
+#[derive(Clone, Copy, Debug, PartialEq, Eq, Hash)]
 pub enum Access {
     Load {
         address: u32,
@@ -14,10 +17,27 @@ pub enum Access {
     },
 }
 
+// What any memory is asked: a fetch of the word at an address, or a load or a store.
+#[derive(Clone, Copy, Debug, PartialEq, Eq, Hash)]
+pub enum Request {
+    Fetch(u32),
+    Data(Access),
+}
+
 // Done with the value that was read, or 0 for a store; absent; or to be asked again.
-#[derive(Clone, Copy, PartialEq, Eq)]
+// Three cases of their own: a `Poll<Option<u32>>` would name none of them.
+#[derive(Clone, Copy, Debug, PartialEq, Eq, Hash)]
 pub enum Answer {
     Done(u32),
     Absent,
     Wait,
+}
+
+// The answer that is no wait: a value, or absent where there is none.
+impl From<Option<u32>> for Answer {
+    ghost from_gives = { λ value answer. answer ≡ answer_with value };
+
+    fn from(value: Option<u32>) -> Answer {
+        value.map_or(Answer::Absent, Answer::Done)
+    }
 }

@@ -1,62 +1,39 @@
-ghost use Rattle.std.specs.Prelude.{◌≡◌, ℕ, ◌≤◌, Option};
-ghost use Rattle.memory.specs.Bytes.{Cells};
-ghost use Rattle.memory.specs.Promise.{Effect, Keeps, Grounded};
-ghost use Rattle.memory.specs.declared.access.Access.{Access};
+ghost use Rattle.std.specs.Prelude.{◌≡◌, Option};
+ghost use Rattle.memory.specs.Promise.{Keeps, Grounded};
 ghost use Rattle.memory.specs.declared.access.Access.TheVariants.{Load, Store};
-ghost use Rattle.memory.specs.declared.access.Answer.{Answer};
 
-use crate::access::Answer;
+use crate::access::{Access, Answer};
+use crate::promise::Memory;
 
 // A memory that is asked loads and stores alone.
-pub trait DataMemory {
-    // What the memory holds, as far as accesses can tell.
-    ghost Meaning: { Type 0 };
-
-    ghost means: { Self → Meaning };
-
-    // What an access does when it is not made to wait: nothing where it is absent, else the value answered and the meaning
-    // after it.
-    ghost does: { Meaning → Access → Effect Meaning };
-
-    // The byte that an address shows, or nothing.
-    ghost shows: { Meaning → Cells };
-
-    // Only aligned accesses of 1, 2 or 4 bytes that are all shown are done, and a done load answers these.
-    ghost grounded: { Grounded does shows };
-
-    // How many waits are open for an access.
-    ghost waits: { Self → Access → ℕ };
-
-    // The condition under which the promises hold, as a kind of memory may name it: true of a new memory, kept by every call.
-    ghost sound: { Self → Type 0 };
-
-    // What no call changes, and the longest wait by it.
-    ghost Fixed: { Type 0 };
-
-    ghost fixed: { Self → Fixed };
-
-    ghost longest: { Fixed → ℕ };
-
-    // The open waits never pass the longest.
-    ghost bounded: { (s : Self) (x : Access) → sound s → waits s x ≤ longest (fixed s) };
-
-    // The kind's exact behaviour: asked so in that state, so it answers and so it is left.
-    ghost behaves: { Self → Access → Answer → Self → Type 0 };
-
-    // Asks for a load of so many bytes.
-    fn load(&mut self, address: u32, width: u32) -> Answer
-        requires { sound self.old }
-        ensures keeps { Keeps sound means waits fixed does self.old (Load address width) result self.new }
-        ensures exact { behaves self.old (Load address width) result self.new };
-
-    // Asks for a store of so many low bytes of a value.
-    fn store(&mut self, address: u32, width: u32, value: u32) -> Answer
-        requires { sound self.old }
-        ensures keeps { Keeps sound means waits fixed does self.old (Store address width value) result self.new }
-        ensures exact { behaves self.old (Store address width value) result self.new };
-
+pub trait DataMemory: Memory<Asked = Access> {
     // The byte that an address shows, without a wait and without a trace.
     fn look(&self, address: u32) -> Option<u8>
-        requires { sound self.now }
-        ensures { result ≡ shows (means self.now) address };
+        requires { Self.sound self.now }
+        ensures { result ≡ Self.shows (Self.means self.now) address };
+
+    // Asks for a load of so many bytes.
+    final fn load(&mut self, address: u32, width: u32) -> Answer
+        requires { Self.sound self.old }
+        ensures keeps { Keeps Self.sound Self.means Self.waits Self.fixed Self.does self.old (Load address width) result self.new }
+        ensures exact { Self.behaves self.old (Load address width) result self.new }
+    {
+        self.ask(Access::Load { address, width })
+    }
+
+    // Asks for a store of so many low bytes of a value.
+    final fn store(&mut self, address: u32, width: u32, value: u32) -> Answer
+        requires { Self.sound self.old }
+        ensures keeps { Keeps Self.sound Self.means Self.waits Self.fixed Self.does self.old (Store address width value) result self.new }
+        ensures exact { Self.behaves self.old (Store address width value) result self.new }
+    {
+        self.ask(Access::Store {
+            address,
+            width,
+            value,
+        })
+    }
+
+    // Only aligned accesses of 1, 2 or 4 bytes that are all shown are done, and a done load answers these.
+    ghost grounded: { Grounded Self.does Self.shows };
 }

@@ -6,11 +6,15 @@ mod byte_laws;
 mod data_memory;
 mod plain_memory;
 mod program_memory;
+mod promise;
+mod request;
 mod settling;
 
-pub use access::{Access, Answer};
-pub use byte_laws::plain_bytes;
+pub use access::{Access, Answer, Request};
+pub use byte_laws::{plain_bytes, promises_plain_bytes};
 pub use data_memory::DataMemory;
 pub use plain_memory::PlainMemory;
 pub use program_memory::ProgramMemory;
-pub use settling::{ask, settle, settle_fetch};
+pub use promise::Memory;
+pub use request::AsRequest;
+pub use settling::{settle, settle_fetch};

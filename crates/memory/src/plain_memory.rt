@@ -1,3 +1,4 @@
+// Data memories of plain bytes.
 ghost use Rattle.memory.specs.Plain.{Plainly};
 
 use crate::data_memory::DataMemory;
@@ -5,7 +6,5 @@ use crate::data_memory::DataMemory;
 // A data memory of plain bytes: a load alters nothing, a store replaces its bytes alone, and any access of 1, 2 or 4 bytes
 // is done if it is aligned and its bytes are there.
 pub trait PlainMemory: DataMemory {
-    // Does nothing; its contract is the promise.
-    fn promise()
-        ensures { Plainly Self.DataMemory.does Self.DataMemory.shows };
+    ghost plainly: { Plainly Self.does Self.shows };
 }

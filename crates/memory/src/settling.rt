@@ -1,32 +1,17 @@
-// An access asked once, and one that is repeated until it is answered; the open waits fall with each wait.
-ghost use Rattle.memory.specs.Calls.{AccessAsked, AccessSettled, FetchSettled};
+// A request that is repeated until it is answered; the open waits fall with each wait.
+ghost use Rattle.memory.specs.Calls.{Settles, FetchSettled};
 
-use crate::access::{Access, Answer};
-use crate::data_memory::DataMemory;
+use crate::access::Answer;
 use crate::program_memory::ProgramMemory;
+use crate::promise::Memory;
 
-// Asks for a load or a store, once.
-pub fn ask<D: DataMemory>(memory: &mut D, access: Access) -> Answer
-    requires { D.sound memory.old }
-    ensures { AccessAsked D.DataMemory memory.old access result memory.new }
-{
-    match access {
-        Access::Load { address, width } => memory.load(address, width),
-        Access::Store {
-            address,
-            width,
-            value,
-        } => memory.store(address, width, value),
-    }
-}
-
-// The value of a load or 0 for a store, or nothing where it is absent.
-pub fn settle<D: DataMemory>(memory: &mut D, access: Access) -> Option<u32>
-    requires { D.sound memory.old }
-    ensures { AccessSettled D.DataMemory memory.old access result memory.new }
+// The value of a load, 0 for a store, the word of a fetch, or nothing where it is absent.
+pub fn settle<M: Memory>(memory: &mut M, asked: M::Asked) -> Option<u32>
+    requires { M.sound memory.old }
+    ensures { Settles M.Memory memory.old asked result memory.new }
 {
     loop {
-        match ask(memory, access) {
+        match memory.ask(asked) {
             Answer::Done(value) => return Some(value),
             Answer::Absent => return None,
             Answer::Wait => {}
@@ -37,13 +22,7 @@ pub fn settle<D: DataMemory>(memory: &mut D, access: Access) -> Option<u32>
 // The word at an address, or nothing where it is absent.
 pub fn settle_fetch<P: ProgramMemory>(memory: &mut P, address: u32) -> Option<u32>
     requires { P.sound memory.old }
-    ensures { FetchSettled P.ProgramMemory memory.old address result memory.new }
+    ensures { FetchSettled P.Memory memory.old address result memory.new }
 {
-    loop {
-        match memory.fetch(address) {
-            Answer::Done(word) => return Some(word),
-            Answer::Absent => return None,
-            Answer::Wait => {}
-        }
-    }
+    settle(memory, address)
 }

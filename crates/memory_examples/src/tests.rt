@@ -1,9 +1,10 @@
 // An example for each public function of the memories.
 use crate::shapes::{ask_each_once, settle_each};
 use memory::{
-    Access, Answer, DataMemory, PlainMemory, ProgramMemory, ask, plain_bytes, settle, settle_fetch,
+    Access, Answer, AsRequest, DataMemory, Memory, ProgramMemory, Request, plain_bytes,
+    promises_plain_bytes, settle, settle_fetch,
 };
-use slow::{Slow, check_waits};
+use slow::{Slow, WaitsRefusal, check_waits};
 use std::test::Fail;
 use storage::{LimitRefusal, PagedRam, Ram, Rom};
 
@@ -29,17 +30,14 @@ fn waits_then_seven<D: DataMemory>(memory: &mut D, accesses: &[Access]) -> bool
         if last != Answer::Wait {
             return false;
         }
-        last = ask(memory, *access);
+        last = memory.ask(*access);
     }
     last == Answer::Done(7)
 }
 
 // The number of a refusal of words or bytes, or 0.
 fn limit_number(answer: Result<(), LimitRefusal>) -> u8 {
-    match answer {
-        Ok(()) => 0,
-        Err(refusal) => refusal.number(),
-    }
+    answer.map_or_else(LimitRefusal::number, |()| 0)
 }
 
 #[test]
@@ -139,9 +137,26 @@ fn settles(rt: HostRuntime) {
 #[test]
 fn states_laws() {
     plain_bytes();
-    Ram::promise();
-    PagedRam::promise();
-    Slow::<Ram>::promise();
-    Slow::<Rom>::repeated_fetch();
-    Slow::<Ram>::repeated_access();
+    promises_plain_bytes::<Ram>();
+    promises_plain_bytes::<PagedRam>();
+    promises_plain_bytes::<Slow<Ram>>();
+    Slow::<Rom>::repeated();
+    Slow::<Ram>::repeated();
+}
+
+#[test]
+fn tells_refusals_to_people(rt: HostRuntime) -> Result<(), Fail> {
+    let waits = format!(in rt.alloc(); "{}", WaitsRefusal::TooMany)?;
+    assert!(rt; waits.as_str() == "more than 255 waits");
+    let length = format!(in rt.alloc(); "{}", LimitRefusal::TooLong)?;
+    assert!(rt; length.as_str() == "more words or bytes than the memory uses");
+    Ok(())
+}
+
+#[test]
+fn knows_requests_and_answers(rt: HostRuntime) {
+    assert!(rt; 8u32.as_request() == Request::Fetch(8) && WIDE.as_request() == Request::Data(WIDE));
+    assert!(rt; Answer::from(Some(7)) == Answer::Done(7) && Answer::from(None) == Answer::Absent);
+    let words = [5, 6];
+    assert!(rt; Rom::new(&words).ask(4) == Answer::Done(6));
 }

@@ -1,6 +1,6 @@
 // Follows commands on two memories of any kinds, and writes what they answer.
-use crate::command::{Ask, Command};
-use memory::{Answer, DataMemory, ProgramMemory, ask, settle, settle_fetch};
+use crate::command::Command;
+use memory::{Answer, DataMemory, Memory, ProgramMemory, Request, settle, settle_fetch};
 use memory_examples::{ask_each_once, settle_each};
 use std::alloc::AllocError;
 use std::fmt;
@@ -26,8 +26,8 @@ pub fn answer_all<P: ProgramMemory, D: DataMemory>(
     commands: &[Command],
     answers: &mut String,
 ) -> Result<(), AllocError>
-    requires program_sound { P.ProgramMemory.sound program.old }
-    requires data_sound { D.DataMemory.sound «data».old }
+    requires program_sound { P.sound program.old }
+    requires data_sound { D.sound «data».old }
 {
     for command in commands {
         answer(program, data, *command, answers)?;
@@ -35,91 +35,49 @@ pub fn answer_all<P: ProgramMemory, D: DataMemory>(
     Ok(())
 }
 
+// A match on the command: each asks another memory in another way, so closures would be no plainer.
 fn answer<P: ProgramMemory, D: DataMemory>(
     program: &mut P,
     data: &mut D,
     command: Command,
     answers: &mut String,
 ) -> Result<(), AllocError>
-    requires program_sound { P.ProgramMemory.sound program.old }
-    requires data_sound { D.DataMemory.sound «data».old }
-    ensures program_kept { P.ProgramMemory.sound program.new }
-    ensures data_kept { D.DataMemory.sound «data».new }
+    requires program_sound { P.sound program.old }
+    requires data_sound { D.sound «data».old }
+    ensures program_kept { P.sound program.new }
+    ensures data_kept { D.sound «data».new }
 {
     match command {
-        Command::Once(asked) => {
-            let answer = Shown(once(program, data, asked));
-            writeln!(answers, "{answer}")
-        }
-        Command::Settle(asked) => {
-            let answer = Shown(settled(program, data, asked));
-            writeln!(answers, "{answer}")
-        }
-        Command::LookByte(address) => look_byte(data, address, answers),
-        Command::LookWord(address) => look_word(program, address, answers),
+        Command::Once(Request::Fetch(address)) => show(answers, program.fetch(address)),
+        Command::Once(Request::Data(access)) => show(answers, data.ask(access)),
+        Command::Settle(Request::Fetch(address)) => show(answers, settle_fetch(program, address)),
+        Command::Settle(Request::Data(access)) => show(answers, settle(data, access)),
+        Command::LookByte(address) => match data.look(address) {
+            Some(byte) => writeln!(answers, "byte {byte}"),
+            None => writeln!(answers, "nothing"),
+        },
+        Command::LookWord(address) => match program.look(address) {
+            Some(word) => writeln!(answers, "word {word}"),
+            None => writeln!(answers, "nothing"),
+        },
         Command::Both(address, access) => {
             let (word, value) = ask_each_once(program, data, address, access);
-            let (word, value) = (Shown(word), Shown(value));
-            writeln!(answers, "{word} / {value}")
+            show_both(answers, word, value)
         }
         Command::Step(address, access) => {
             let (word, value) = settle_each(program, data, address, access);
-            let (word, value) = (Shown(answered(word)), Shown(answered(value)));
-            writeln!(answers, "{word} / {value}")
+            show_both(answers, word, value)
         }
     }
 }
 
-fn once<P: ProgramMemory, D: DataMemory>(program: &mut P, data: &mut D, asked: Ask) -> Answer
-    requires program_sound { P.ProgramMemory.sound program.old }
-    requires data_sound { D.DataMemory.sound «data».old }
-    ensures program_kept { P.ProgramMemory.sound program.new }
-    ensures data_kept { D.DataMemory.sound «data».new }
-{
-    match asked {
-        Ask::Data(access) => ask(data, access),
-        Ask::Fetch(address) => program.fetch(address),
-    }
+// The answer that an access had, or the value or nothing that it had settled on.
+fn show<A: Into<Answer>>(answers: &mut String, answer: A) -> Result<(), AllocError> {
+    let answer = Shown(answer.into());
+    writeln!(answers, "{answer}")
 }
 
-fn settled<P: ProgramMemory, D: DataMemory>(program: &mut P, data: &mut D, asked: Ask) -> Answer
-    requires program_sound { P.ProgramMemory.sound program.old }
-    requires data_sound { D.DataMemory.sound «data».old }
-    ensures program_kept { P.ProgramMemory.sound program.new }
-    ensures data_kept { D.DataMemory.sound «data».new }
-{
-    match asked {
-        Ask::Data(access) => answered(settle(data, access)),
-        Ask::Fetch(address) => answered(settle_fetch(program, address)),
-    }
-}
-
-// The answer that a settled access has had.
-fn answered(value: Option<u32>) -> Answer {
-    match value {
-        Some(value) => Answer::Done(value),
-        None => Answer::Absent,
-    }
-}
-
-fn look_byte<D: DataMemory>(data: &D, address: u32, answers: &mut String) -> Result<(), AllocError>
-    requires { D.sound «data».now }
-{
-    match data.look(address) {
-        Some(byte) => writeln!(answers, "byte {byte}"),
-        None => writeln!(answers, "nothing"),
-    }
-}
-
-fn look_word<P: ProgramMemory>(
-    program: &P,
-    address: u32,
-    answers: &mut String,
-) -> Result<(), AllocError>
-    requires { P.sound program.now }
-{
-    match program.look(address) {
-        Some(word) => writeln!(answers, "word {word}"),
-        None => writeln!(answers, "nothing"),
-    }
+fn show_both<A: Into<Answer>>(answers: &mut String, word: A, value: A) -> Result<(), AllocError> {
+    let (word, value) = (Shown(word.into()), Shown(value.into()));
+    writeln!(answers, "{word} / {value}")
 }

@@ -1,20 +1,13 @@
 // What a line asks the memories.
 use crate::setup::number;
 use anyhow::anyhow;
-use memory::Access;
+use memory::{Access, Request};
 use std::str::SplitWhitespace;
-
-// An access of one memory.
-#[derive(Clone, Copy)]
-pub enum Ask {
-    Data(Access),
-    Fetch(u32),
-}
 
 #[derive(Clone, Copy)]
 pub enum Command {
-    Once(Ask),
-    Settle(Ask),
+    Once(Request),
+    Settle(Request),
     LookByte(u32),
     LookWord(u32),
     Both(u32, Access),
@@ -26,47 +19,39 @@ pub fn parse(line: &str) -> anyhow::Result<Command> {
     match parts.next().unwrap_or("") {
         "settle" => {
             let sort = parts.next().unwrap_or("");
-            Ok(Command::Settle(one_access(sort, &mut parts)?))
+            Ok(Command::Settle(request(sort, &mut parts)?))
         }
         "look" => match parts.next().unwrap_or("") {
-            "byte" => Ok(Command::LookByte(number(parts.next())?)),
-            "word" => Ok(Command::LookWord(number(parts.next())?)),
+            "byte" => Ok(Command::LookByte(number(&mut parts)?)),
+            "word" => Ok(Command::LookWord(number(&mut parts)?)),
             _ => Err(anyhow!("a byte or a word")),
         },
-        "both" => {
-            let address = number(parts.next())?;
-            Ok(Command::Both(address, load(&mut parts)?))
-        }
-        "step" => {
-            let address = number(parts.next())?;
-            Ok(Command::Step(address, load(&mut parts)?))
-        }
-        sort => Ok(Command::Once(one_access(sort, &mut parts)?)),
+        "both" => Ok(Command::Both(number(&mut parts)?, load(&mut parts)?)),
+        "step" => Ok(Command::Step(number(&mut parts)?, load(&mut parts)?)),
+        sort => Ok(Command::Once(request(sort, &mut parts)?)),
     }
 }
 
-fn one_access(sort: &str, parts: &mut SplitWhitespace<'_>) -> anyhow::Result<Ask> {
+fn request(sort: &str, parts: &mut SplitWhitespace<'_>) -> anyhow::Result<Request> {
     match sort {
-        "fetch" => Ok(Ask::Fetch(number(parts.next())?)),
-        "load" => Ok(Ask::Data(load(parts)?)),
-        "store" => Ok(Ask::Data(store(parts)?)),
+        "fetch" => Ok(Request::Fetch(number(parts)?)),
+        "load" => Ok(Request::Data(load(parts)?)),
+        "store" => Ok(Request::Data(store(parts)?)),
         _ => Err(anyhow!("no such command")),
     }
 }
 
 fn load(parts: &mut SplitWhitespace<'_>) -> anyhow::Result<Access> {
-    let address = number(parts.next())?;
-    let width = number(parts.next())?;
-    Ok(Access::Load { address, width })
+    Ok(Access::Load {
+        address: number(parts)?,
+        width: number(parts)?,
+    })
 }
 
 fn store(parts: &mut SplitWhitespace<'_>) -> anyhow::Result<Access> {
-    let address = number(parts.next())?;
-    let width = number(parts.next())?;
-    let value = number(parts.next())?;
     Ok(Access::Store {
-        address,
-        width,
-        value,
+        address: number(parts)?,
+        width: number(parts)?,
+        value: number(parts)?,
     })
 }

@@ -76,15 +76,15 @@ fn follow(
     let words = words(heap, setup.words)?;
     let rom = Slow::new(setup.program_inner, Rom::new(&words));
     let mut program = Slow::new(setup.program_outer, rom);
-    match setup.pages {
-        Some(pages) => {
-            let ram = Slow::new(setup.data_inner, PagedRam::new(&mut bytes, pages));
-            let mut ram = Slow::new(setup.data_outer, ram);
-            answer_all(&mut program, &mut ram, commands, answers)?;
+    match setup.paging {
+        Some(paging) => {
+            let ram = Slow::new(paging.waits, PagedRam::new(&mut bytes, paging.marks));
+            let mut data = Slow::new(setup.data_waits, ram);
+            answer_all(&mut program, &mut data, commands, answers)?;
         }
         None => {
-            let mut ram = Slow::new(setup.data_outer, Ram::new(&mut bytes));
-            answer_all(&mut program, &mut ram, commands, answers)?;
+            let mut data = Slow::new(setup.data_waits, Ram::new(&mut bytes));
+            answer_all(&mut program, &mut data, commands, answers)?;
         }
     }
     let sum = weighed(&bytes);

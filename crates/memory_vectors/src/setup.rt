@@ -1,14 +1,22 @@
 // The two memories that a line asks for, and what stands in them.
-use anyhow::anyhow;
+use anyhow::{Context, anyhow};
 use std::alloc::{AllocError, Global};
+use std::array;
+use std::str::SplitWhitespace;
+
+// The pages of paged RAM that are there, and the waits of the layer next to it.
+#[derive(Clone, Copy)]
+pub struct Paging {
+    pub waits: u32,
+    pub marks: [bool; 256],
+}
 
 // The lengths and waits of both memories. RAM without pages has one layer alone, the outer one.
-#[derive(Drop)]
+#[derive(Clone, Copy)]
 pub struct Setup {
-    pub data_outer: u32,
-    pub data_inner: u32,
+    pub data_waits: u32,
     pub bytes: usize,
-    pub pages: Option<[bool; 256]>,
+    pub paging: Option<Paging>,
     pub program_outer: u32,
     pub program_inner: u32,
     pub words: u32,
@@ -17,73 +25,63 @@ pub struct Setup {
 // The memories that a line makes, or nothing where it is a command for memories that are there.
 pub fn parse(line: &str) -> anyhow::Result<Option<Setup>> {
     let mut parts = line.split_whitespace();
-    let pages = match parts.next().unwrap_or("") {
-        "paged" => true,
-        "ram" => false,
+    let paged = match parts.next() {
+        Some("paged") => true,
+        Some("ram") => false,
         _ => return Ok(None),
     };
-    let data_outer = number(parts.next())?;
-    let data_inner = if pages { number(parts.next())? } else { 0 };
-    let bytes = number(parts.next())? as usize;
-    let pages = if pages {
-        Some(marks(parts.next().unwrap_or("").as_bytes())?)
+    let data_waits = number(&mut parts)?;
+    let inner = if paged {
+        Some(number(&mut parts)?)
     } else {
         None
     };
+    let bytes = number(&mut parts)? as usize;
+    let paging = match inner {
+        Some(waits) => Some(Paging {
+            waits,
+            marks: marks(parts.next().unwrap_or(""))?,
+        }),
+        None => None,
+    };
     Ok(Some(Setup {
-        data_outer,
-        data_inner,
+        data_waits,
         bytes,
-        pages,
-        program_outer: number(parts.next())?,
-        program_inner: number(parts.next())?,
-        words: number(parts.next())?,
+        paging,
+        program_outer: number(&mut parts)?,
+        program_inner: number(&mut parts)?,
+        words: number(&mut parts)?,
     }))
 }
 
-pub fn number(part: Option<&str>) -> anyhow::Result<u32> {
-    match part {
-        Some(digits) => Ok(digits.parse::<u32>()?),
-        None => Err(anyhow!("a number is missing")),
-    }
+pub fn number(parts: &mut SplitWhitespace<'_>) -> anyhow::Result<u32> {
+    Ok(parts.next().context("a number is missing")?.parse::<u32>()?)
 }
 
 // The marks of the pages, page 0 first, the highest bit of a digit first.
-fn marks(digits: &[u8]) -> anyhow::Result<[bool; 256]> {
-    let mut marks = [false; 256];
-    for page in 0..256 {
-        let Some(digit) = digits.get(page / 4) else {
-            return Err(anyhow!("64 digits for the pages"));
-        };
-        marks[page] = nibble(*digit) << (page % 4) & 8 != 0;
-    }
-    Ok(marks)
-}
-
-fn nibble(digit: u8) -> u8 {
-    match digit {
-        b'0'..=b'9' => digit - b'0',
-        b'a'..=b'f' => digit - b'a' + 10,
-        _ => 0,
-    }
+fn marks(digits: &str) -> anyhow::Result<[bool; 256]> {
+    let Some(digits) = digits.as_bytes().first_chunk::<64>() else {
+        return Err(anyhow!("64 digits for the pages"));
+    };
+    Ok(array::from_fn(|page| {
+        let digit = char::from(digits[page / 4]).to_digit(16).unwrap_or(0);
+        digit << (page % 4) & 8 != 0
+    }))
 }
 
 // The words of the program memory, each another one.
 pub fn words(heap: Global, length: u32) -> Result<Vec<u32>, AllocError> {
-    let mut words = Vec::new(heap);
-    for place in 0..length {
-        words.push(place.wrapping_mul(2654435761).wrapping_add(12345))?;
-    }
-    Ok(words)
+    (0..length)
+        .map(|place| place.wrapping_mul(2654435761).wrapping_add(12345))
+        .collect(heap)
 }
 
 // The sum of the bytes, each times its place from 1, modulo 2^32.
 pub fn weighed(bytes: &[u8]) -> u32 {
-    let mut sum = 0u32;
-    let mut weight = 1u32;
-    for byte in bytes {
-        sum = sum.wrapping_add(weight.wrapping_mul(u32::from(*byte)));
-        weight = weight.wrapping_add(1);
-    }
-    sum
+    bytes
+        .iter()
+        .zip(1..=u32::MAX)
+        .fold(0, |sum: u32, (byte, place)| {
+            sum.wrapping_add(place.wrapping_mul(u32::from(*byte)))
+        })
 }

@@ -1,31 +1,19 @@
 -- The assembly notation: the text of an instruction, as bytes.
-use Rattle.std.specs.Prelude.{ℕ, ◌-◌, ◌*◌, ◌^◌, Bool, true, false, cond, List, [], ◌∷◌, ◌++◌, codes, decimal, nat_lt}
+use Rattle.std.specs.Prelude.{ℕ, ◌-◌, ◌*◌, ◌^◌, if◌then◌else◌, List, [], ◌∷◌, ◌++◌, codes, decimal, nat_lt}
+use Rattle.instruction.specs.Text.{register_text, special_text, load_text, store_text, alu_text, shift_text, branch_text, test_text}
 use Rattle.instruction.specs.declared.field.Immediate.{Immediate}
 use Rattle.instruction.specs.declared.field.Offset.{Offset}
 use Rattle.instruction.specs.declared.field.Register.{Register}
 use Rattle.instruction.specs.declared.instruction.Instruction.{Instruction}
 use Rattle.instruction.specs.declared.instruction.Instruction.TheVariants.{Load, Store, AluImmediate, LoadHighImmediate, TestImmediate, Branch, JumpRegister, Jump, Trap, ReturnFromException, ShiftImmediate, Shift, ReadSpecial, WriteSpecial, Alu, LoadHigh, Test}
-use Rattle.instruction.specs.declared.operation.LoadKind.{LoadKind}
-use Rattle.instruction.specs.declared.operation.LoadKind.TheVariants as load
-use Rattle.instruction.specs.declared.operation.StoreKind.{StoreKind}
-use Rattle.instruction.specs.declared.operation.StoreKind.TheVariants as store
 use Rattle.instruction.specs.declared.operation.AluOp.{AluOp}
 use Rattle.instruction.specs.declared.operation.AluOp.TheVariants as alu
 use Rattle.instruction.specs.declared.operation.ShiftOp.{ShiftOp}
-use Rattle.instruction.specs.declared.operation.ShiftOp.TheVariants as shift
-use Rattle.instruction.specs.declared.operation.Condition.{Condition}
-use Rattle.instruction.specs.declared.operation.Condition.TheVariants as condition
 use Rattle.instruction.specs.declared.operation.Relations.{Relations}
-use Rattle.instruction.specs.declared.operation.SpecialRegister.{SpecialRegister}
-use Rattle.instruction.specs.declared.operation.SpecialRegister.TheVariants.{Sr, Esr, Eca, Epc, Edpc, Edata}
-
--- r0 to r31
-unfoldable pub register_text : Register → List ℕ
-register_text r = codes "r" ++ decimal r.index
 
 -- bits as a signed number, in decimal: from the half of their range on they mean a negative one
 unfoldable pub signed_text : (half bits : ℕ) → List ℕ
-signed_text half bits = cond (nat_lt bits half) (decimal bits) (codes "-" ++ decimal (2 * half - bits))
+signed_text half bits = if nat_lt bits half then decimal bits else codes "-" ++ decimal (2 * half - bits)
 
 abbrev pub immediate_text : Immediate → List ℕ
 immediate_text imm = signed_text (2 ^ 15) imm.bits
@@ -44,41 +32,11 @@ text_of [] = []
 text_of (part ∷ parts) = followed part parts
 
 -- the operand of a load or a store
-unfoldable pub indexed_text : Immediate → Register → List ℕ
+abbrev pub indexed_text : Immediate → Register → List ℕ
 indexed_text imm base = text_of (immediate_text imm ∷ codes "(" ∷ register_text base ∷ codes ")" ∷ [])
 
-abbrev pub special_text : SpecialRegister → List ℕ
-special_text Sr = codes "sr"
-special_text Esr = codes "esr"
-special_text Eca = codes "eca"
-special_text Epc = codes "epc"
-special_text Edpc = codes "edpc"
-special_text Edata = codes "edata"
+-- mnemonics of the form with an immediate; the i stands before the u
 
--- mnemonics
-
-abbrev pub load_text : LoadKind → List ℕ
-load_text load.Byte = codes "lb"
-load_text load.Half = codes "lh"
-load_text load.Word = codes "lw"
-load_text load.ByteUnsigned = codes "lbu"
-load_text load.HalfUnsigned = codes "lhu"
-
-abbrev pub store_text : StoreKind → List ℕ
-store_text store.Byte = codes "sb"
-store_text store.Half = codes "sh"
-store_text store.Word = codes "sw"
-
-abbrev pub alu_text : AluOp → List ℕ
-alu_text alu.Add = codes "add"
-alu_text alu.AddUnsigned = codes "addu"
-alu_text alu.Sub = codes "sub"
-alu_text alu.SubUnsigned = codes "subu"
-alu_text alu.And = codes "and"
-alu_text alu.Or = codes "or"
-alu_text alu.Xor = codes "xor"
-
--- with an immediate the i stands before the u
 abbrev pub alu_immediate_text : AluOp → List ℕ
 alu_immediate_text alu.Add = codes "addi"
 alu_immediate_text alu.AddUnsigned = codes "addiu"
@@ -87,29 +45,6 @@ alu_immediate_text alu.SubUnsigned = codes "subiu"
 alu_immediate_text alu.And = codes "andi"
 alu_immediate_text alu.Or = codes "ori"
 alu_immediate_text alu.Xor = codes "xori"
-
-abbrev pub shift_text : ShiftOp → List ℕ
-shift_text shift.Left = codes "sll"
-shift_text shift.Right = codes "srl"
-shift_text shift.RightArithmetic = codes "sra"
-
-abbrev pub branch_text : Condition → List ℕ
-branch_text condition.Zero = codes "beqz"
-branch_text condition.NotZero = codes "bnez"
-
--- by whether the test asks for greater, for equal, for less
-abbrev pub asking_text : (greater equal less : Bool) → List ℕ
-asking_text false false false = codes "clr"
-asking_text true false false = codes "sgr"
-asking_text false true false = codes "seq"
-asking_text true true false = codes "sge"
-asking_text false false true = codes "sls"
-asking_text true false true = codes "sne"
-asking_text false true true = codes "sle"
-asking_text true true true = codes "set"
-
-abbrev pub test_text : Relations → List ℕ
-test_text asked = asking_text asked.greater asked.equal asked.less
 
 abbrev pub test_immediate_text : Relations → List ℕ
 test_immediate_text asked = test_text asked ++ codes "i"
@@ -136,8 +71,8 @@ notation_of (AluImmediate op rd rs1 imm) = three (alu_immediate_text op) (regist
 notation_of (LoadHighImmediate rd imm) = two (codes "lhgi") (register_text rd) (decimal imm.bits)
 notation_of (TestImmediate asked rd rs1 imm) = three (test_immediate_text asked) (register_text rd) (register_text rs1) (immediate_text imm)
 notation_of (Branch condition rs1 imm) = two (branch_text condition) (register_text rs1) (immediate_text imm)
-notation_of (JumpRegister link rs1) = one (cond link (codes "jalr") (codes "jr")) (register_text rs1)
-notation_of (Jump link offset) = one (cond link (codes "jal") (codes "j")) (offset_text offset)
+notation_of (JumpRegister link rs1) = one (if link then codes "jalr" else codes "jr") (register_text rs1)
+notation_of (Jump link offset) = one (if link then codes "jal" else codes "j") (offset_text offset)
 notation_of (Trap offset) = one (codes "trap") (offset_text offset)
 notation_of ReturnFromException = codes "rfe"
 notation_of (ShiftImmediate op rd rs1 amount) = three (shift_immediate_text op) (register_text rd) (register_text rs1) (decimal amount.bits)

@@ -2,7 +2,6 @@
 #![tactic(auto)]
 
 mod assembly;
-mod mnemonic;
 mod operand;
 
 pub use assembly::Assembly;

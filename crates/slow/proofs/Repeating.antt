@@ -1,14 +1,15 @@
 -- The waits of an access that is repeated from a fresh start.
-use Rattle.std.proofs.Common.{◌≡◌, ℕ, zero, suc, ◌+◌, ◌-◌, ◌<◌, ◌≤◌, true, sym, refl, ap, ◌∙◌, subst, inl, inr, arith}
+use Rattle.std.proofs.Common.{◌≡◌, ℕ, zero, suc, ◌+◌, ◌-◌, ◌<◌, ◌≤◌, true, false, Some, None, Option, sym, refl, ap, ◌∙◌, subst, inl, inr, arith}
 use Rattle.std.proofs.lemmas.Bool.{cases_lt, lt-ltb, le-ltb, eq-eqb}
 use Rattle.memory.specs.Settling.{Waited, Settled}
 use Rattle.memory.specs.declared.access.Access.TheVariants.{Load, Store}
 use Rattle.memory.specs.declared.access.Answer.{Answer}
 use Rattle.memory.specs.declared.access.Answer.TheVariants.{Wait}
-use Rattle.slow.specs.declared.counter_state.Request.{Request}
-use Rattle.slow.specs.declared.counter_state.Request.TheVariants.{Fetch, Data}
+use Rattle.memory.specs.declared.access.Request.{Request}
+use Rattle.memory.specs.declared.access.Request.TheVariants.{Fetch, Data}
+use Rattle.slow.specs.declared.counter_state.Waiting.{Waiting}
 use Rattle.slow.specs.declared.counter_state.WaitCounter.{WaitCounter}
-use Rattle.slow.specs.Waits.{is_same, given_to, remaining, after_own_wait, after_below}
+use Rattle.slow.specs.Waits.{is_same, is_waiting, given_in, given_to, remaining, after_own_wait, after_below}
 use Rattle.slow.specs.Behaviour.{Delays, open_waits}
 use Rattle.slow.specs.Repetition.{Fresh, Repetition}
 
@@ -23,6 +24,10 @@ given_next c x = rw (same_self x) refl
 given_still : (c : WaitCounter) (x : Request) → given_to (after_below c x Wait) x ≡ given_to c x
 given_still c x = rw (same_self x) refl
 
+none_given_in : (waiting : Option Waiting) (x : Request) → is_waiting waiting x ≡ false → given_in waiting x ≡ 0
+none_given_in None x e = refl
+none_given_in (Some waiting) x e = rw e refl
+
 module _ {S B X : Type 0} (counter : S → WaitCounter) (below : S → B) (requested : X → Request) (behaves : B → X → Answer → B → Type 0) (waits : B → X → ℕ) (x : X) (s : S) (fresh : Fresh (counter s) (requested x)) where
   -- after n waits: as many own ones as there are were given first, and the others came from below
   pub record Given (n : ℕ) (t : S) : Type 0 where
@@ -32,7 +37,7 @@ module _ {S B X : Type 0} (counter : S → WaitCounter) (below : S → B) (reque
     pub inner : Waited behaves x (n - (counter s).own) (below s) (below t)
 
   none_given : given_to (counter s) (requested x) ≡ 0
-  none_given = rw fresh refl
+  none_given = none_given_in (counter s).waiting (requested x) fresh
 
   own_wait : (n : ℕ) (u t : S) → Given n u → n < (counter s).own → Delays counter below requested behaves u x Wait t → Given (suc n) t
   own_wait n u t p l d =

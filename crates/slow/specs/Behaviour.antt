@@ -1,9 +1,9 @@
 -- The exact behaviour of a slow memory, whatever stands below it.
-use Rattle.std.specs.Prelude.{◌≡◌, ℕ, ◌+◌, ◌≤◌, Bool, true, false, cond, Ok, Err, Result, nat_le, nat_lt}
+use Rattle.std.specs.Prelude.{◌≡◌, ℕ, ◌+◌, ◌≤◌, Bool, true, false, if◌then◌else◌, List, codes, Ok, Err, Result, nat_le, nat_lt}
 use Rattle.std.proofs.Common.{arith}
 use Rattle.memory.specs.declared.access.Answer.{Answer}
 use Rattle.memory.specs.declared.access.Answer.TheVariants.{Wait}
-use Rattle.slow.specs.declared.counter_state.Request.{Request}
+use Rattle.memory.specs.declared.access.Request.{Request}
 use Rattle.slow.specs.declared.counter_state.WaitCounter.{WaitCounter}
 use Rattle.slow.specs.declared.refusal.WaitsRefusal.{WaitsRefusal}
 use Rattle.slow.specs.declared.refusal.WaitsRefusal.TheVariants.{TooMany}
@@ -13,9 +13,13 @@ use Rattle.slow.specs.Waits.{remaining, after_own_wait, after_below}
 abbrev pub refusal_number : WaitsRefusal → ℕ
 refusal_number TooMany = 2
 
+-- each refusal as people read it
+abbrev pub refusal_text : WaitsRefusal → List ℕ
+refusal_text TooMany = codes "more than 255 waits"
+
 -- a check of so many waits
 abbrev pub checked_waits : ℕ → Result (Unit {0}) WaitsRefusal
-checked_waits n = cond (nat_le n 255) (Ok tt) (Err TooMany)
+checked_waits n = if nat_le n 255 then Ok tt else Err TooMany
 
 -- While an own wait remains, the answer is wait and the memory below is as it was. With none left the memory below was asked, and
 -- Below says how it did.

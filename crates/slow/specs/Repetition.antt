@@ -1,17 +1,17 @@
--- The law of an access that is asked of a slow memory again and again: its own waits come first, then those of the memory below, and
+-- The law of a request that is made of a slow memory again and again: its own waits come first, then those of the memory below, and
 -- then the answer is that of the memory below.
 use Rattle.std.specs.Prelude.{◌≡◌, ℕ, ◌+◌, ◌≤◌, false, ◌≢◌}
 use Rattle.memory.specs.Settling.{Waited, Settled}
 use Rattle.memory.specs.declared.access.Answer.{Answer}
 use Rattle.memory.specs.declared.access.Answer.TheVariants.{Wait}
-use Rattle.slow.specs.declared.counter_state.Request.{Request}
+use Rattle.memory.specs.declared.access.Request.{Request}
 use Rattle.slow.specs.declared.counter_state.WaitCounter.{WaitCounter}
-use Rattle.slow.specs.Waits.{is_last}
+use Rattle.slow.specs.Waits.{is_waiting}
 use Rattle.slow.specs.Behaviour.{Delays, open_waits}
 
 -- A fresh start: the request is not the one that waits. It was never asked, another one came between, or it has ended.
 abbrev pub Fresh : WaitCounter → Request → Type 0
-Fresh counter x = is_last counter.last x ≡ false
+Fresh counter x = is_waiting counter.waiting x ≡ false
 
 -- From a fresh start the first waits, as many as are its own, leave the memory below as it was; and a run up to the answer r waits its own
 -- waits and those of a run of the memory below, which ends in r too.

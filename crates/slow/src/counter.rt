@@ -1,9 +1,9 @@
-// Counting waits: all of them before each new access, and none once they are given.
+// Counting waits: all of them before each new request, and none once they are given.
 ghost use Rattle.std.specs.Prelude.{◌≡◌, if◌then◌else◌, nat_lt};
 ghost use Rattle.slow.specs.Waits.{given_to, remaining, new_counter, after_own_wait, after_below};
 
-use crate::counter_state::{Request, WaitCounter};
-use memory::Answer;
+use crate::counter_state::{WaitCounter, Waiting};
+use memory::{Answer, Request};
 
 // The most waits that a slow memory adds.
 pub const WAITS_LIMIT: u32 = 255;
@@ -14,8 +14,7 @@ impl WaitCounter {
     {
         WaitCounter {
             own: waits.min(WAITS_LIMIT),
-            given: 0,
-            last: None,
+            waiting: None,
         }
     }
 
@@ -23,10 +22,9 @@ impl WaitCounter {
     fn given_to(&self, request: Request) -> u32
         ensures { result ≡ given_to self.now request }
     {
-        if self.last == Some(request) {
-            self.given
-        } else {
-            0
+        match self.waiting {
+            Some(waiting) if waiting.request == request => waiting.given,
+            _ => 0,
         }
     }
 
@@ -39,8 +37,10 @@ impl WaitCounter {
         if given >= self.own {
             return false;
         }
-        self.given = given + 1;
-        self.last = Some(request);
+        self.waiting = Some(Waiting {
+            request,
+            given: given + 1,
+        });
         true
     }
 
@@ -48,15 +48,12 @@ impl WaitCounter {
     pub(crate) fn pass(&mut self, request: Request, answer: Answer)
         ensures { self.new ≡ after_below self.old request answer }
     {
-        match answer {
-            Answer::Wait => {
-                self.given = self.given_to(request);
-                self.last = Some(request);
-            }
-            Answer::Done(_) | Answer::Absent => {
-                self.given = 0;
-                self.last = None;
-            }
-        }
+        self.waiting = match answer {
+            Answer::Wait => Some(Waiting {
+                request,
+                given: self.given_to(request),
+            }),
+            Answer::Done(_) | Answer::Absent => None,
+        };
     }
 }

@@ -1,17 +1,15 @@
-use memory::Access;
+use memory::Request;
 
-// What a slow memory is asked: a fetch at an address, or a load or a store.
-#[derive(Clone, Copy, PartialEq, Eq)]
-pub(crate) enum Request {
-    Fetch(u32),
-    Data(Access),
+// A request that is made to wait, and how many own waits it was given.
+#[derive(Clone, Copy, Debug, PartialEq, Eq, Hash)]
+pub(crate) struct Waiting {
+    pub(crate) request: Request,
+    pub(crate) given: u32,
 }
 
-// The waits that a slow memory adds to each access, how many of them it has given, and to which access. `last` is the access
-// that was made to wait last and has not ended since.
-#[derive(Clone, Copy)]
+// The waits that a slow memory adds to each request, and the request that was made to wait last and has not ended since.
+#[derive(Clone, Copy, Debug, PartialEq, Eq, Hash)]
 pub(crate) struct WaitCounter {
     pub(crate) own: u32,
-    pub(crate) given: u32,
-    pub(crate) last: Option<Request>,
+    pub(crate) waiting: Option<Waiting>,
 }

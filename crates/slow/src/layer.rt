@@ -1,24 +1,13 @@
-// A memory that adds waits to each access of the memory below it.
-ghost use Rattle.std.specs.Prelude.{◌≡◌};
-ghost use Rattle.slow.specs.Behaviour.{checked_waits};
+// A memory that adds waits to each request of the memory below it.
+ghost use Rattle.std.specs.Prelude.{◌≡◌, ℕ, ◌+◌};
+ghost use Rattle.slow.specs.Behaviour.{Delays, open_waits, sum_bounded};
+ghost use Rattle.slow.specs.Repetition.{Repetition};
 ghost use Rattle.slow.specs.Waits.{new_counter};
 
-use crate::counter::WAITS_LIMIT;
 use crate::counter_state::WaitCounter;
-use crate::refusal::WaitsRefusal;
+use memory::{Answer, AsRequest, DataMemory, Memory, PlainMemory, ProgramMemory};
 
-// Whether a slow memory gives as many waits.
-pub fn check_waits(waits: u32) -> Result<(), WaitsRefusal>
-    ensures { result ≡ checked_waits waits }
-{
-    if waits <= WAITS_LIMIT {
-        Ok(())
-    } else {
-        Err(WaitsRefusal::TooMany)
-    }
-}
-
-// A memory that makes each access wait before it asks the memory below. It begins anew when the access differs from the one
+// A memory that makes each request wait before it asks the memory below. It begins anew when the request differs from the one
 // before or that one has ended.
 #[derive(Drop)]
 pub struct Slow<M> {
@@ -27,7 +16,7 @@ pub struct Slow<M> {
 }
 
 impl<M> Slow<M> {
-    // A slow memory that adds so many waits, at most 255, to each access of the memory below.
+    // A slow memory that adds so many waits, at most 255, to each request of the memory below.
     pub fn new(waits: u32, below: M) -> Slow<M>
         ensures counter { result.counter ≡ new_counter waits }
         ensures below { result.below ≡ below }
@@ -45,4 +34,68 @@ impl<M> Slow<M> {
         let Slow { counter: _, below } = self;
         below
     }
+}
+
+impl<M: Memory> Slow<M> {
+    // Does nothing; its contract is the law of a request that is repeated until it is answered.
+    pub fn repeated()
+        ensures { Repetition {S = Slow M} (λ s. s.counter) (λ s. s.below) M.Asked.request M.behaves M.waits }
+    {}
+}
+
+// It keeps what the memory below promises, with its own waits added.
+impl<M: Memory> Memory for Slow<M> {
+    type Asked = M::Asked;
+
+    ghost Meaning = { M.Meaning };
+
+    ghost means = { λ s. M.means s.below };
+
+    ghost does = { M.does };
+
+    ghost shows = { M.shows };
+
+    ghost waits = { open_waits (λ s. s.counter) (λ s. s.below) M.Asked.request M.waits };
+
+    ghost sound = { λ s. M.sound s.below };
+
+    ghost Fixed = { ℕ × M.Fixed };
+
+    ghost fixed = { λ s. (s.counter.own, M.fixed s.below) };
+
+    ghost longest = { λ k. k.0 + M.longest k.1 };
+
+    ghost behaves = { Delays (λ s. s.counter) (λ s. s.below) M.Asked.request M.behaves };
+
+    fn ask(&mut self, asked: M::Asked) -> Answer {
+        let request = asked.as_request();
+        if self.counter.hold(request) {
+            return Answer::Wait;
+        }
+        let answer = self.below.ask(asked);
+        self.counter.pass(request, answer);
+        answer
+    }
+
+    ghost bounded = { λ s x h. sum_bounded s.counter (M.Asked.request x) (M.bounded s.below x h) };
+}
+
+impl<P: ProgramMemory> ProgramMemory for Slow<P> {
+    fn look(&self, address: u32) -> Option<u32> {
+        self.below.look(address)
+    }
+
+    ghost fetches = { P.fetches };
+}
+
+impl<D: DataMemory> DataMemory for Slow<D> {
+    fn look(&self, address: u32) -> Option<u8> {
+        self.below.look(address)
+    }
+
+    ghost grounded = { D.grounded };
+}
+
+impl<D: PlainMemory> PlainMemory for Slow<D> {
+    ghost plainly = { D.plainly };
 }

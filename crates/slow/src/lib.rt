@@ -3,11 +3,9 @@
 
 mod counter;
 mod counter_state;
-mod data_layer;
 mod layer;
-mod program_layer;
 mod refusal;
 
 pub use counter::WAITS_LIMIT;
-pub use layer::{Slow, check_waits};
-pub use refusal::WaitsRefusal;
+pub use layer::Slow;
+pub use refusal::{WaitsRefusal, check_waits};

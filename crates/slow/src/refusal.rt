@@ -1,20 +1,48 @@
-ghost use Rattle.std.specs.Prelude.{◌≡◌};
-ghost use Rattle.slow.specs.Behaviour.{refusal_number};
+// The waits that a slow memory is checked with, and their refusal.
+ghost use Rattle.std.specs.Prelude.{◌≡◌, Some};
+ghost use Rattle.slow.specs.Behaviour.{checked_waits, refusal_number, refusal_text};
 
-// Why a slow memory is refused when it is checked.
-#[derive(Clone, Copy)]
+use crate::counter::WAITS_LIMIT;
+use std::error::Error;
+use std::fmt;
+
+// A refusal, a limit and a check like those of storage: each crate's refusal is a type of its own, so that a caller of one
+// need not match what only the other can say.
+//
+// Why a slow memory is refused when it is checked, by the number of each refusal.
+#[derive(Clone, Copy, Debug, PartialEq, Eq, Hash)]
 pub enum WaitsRefusal {
     // There are more waits than it gives.
-    TooMany,
+    TooMany = 2,
 }
 
 impl WaitsRefusal {
-    // The number by which the refusal is known.
     pub fn number(self) -> u8
         ensures { result ≡ refusal_number self }
     {
+        self as u8
+    }
+}
+
+impl fmt::Display for WaitsRefusal {
+    ghost output = { λ refusal. Some (refusal_text refusal) };
+
+    fn fmt<W: fmt::Write>(&self, f: &mut fmt::Formatter<W>) -> fmt::Result {
         match self {
-            WaitsRefusal::TooMany => 2,
+            WaitsRefusal::TooMany => f.write_str("more than 255 waits"),
         }
+    }
+}
+
+impl Error for WaitsRefusal {}
+
+// Whether a slow memory gives as many waits.
+pub fn check_waits(waits: u32) -> Result<(), WaitsRefusal>
+    ensures { result ≡ checked_waits waits }
+{
+    if waits <= WAITS_LIMIT {
+        Ok(())
+    } else {
+        Err(WaitsRefusal::TooMany)
     }
 }

@@ -1,12 +1,12 @@
 -- What each kind of storage means: the caller's words or bytes by their places, from address 0, as far as they are in use.
-use Rattle.std.specs.Prelude.{ℕ, zero, suc, ◌+◌, ◌/◌, ◌%◌, Bool, false, cond, ◌&&◌, List, length, is_some, Some, None, nat_lt, slice_index, slice_index_or, slice_set}
+use Rattle.std.specs.Prelude.{ℕ, zero, suc, ◌+◌, ◌/◌, ◌%◌, Bool, false, if◌then◌else◌, ◌&&◌, List, length, is_some, Some, None, nat_lt, slice_index, slice_index_or, slice_set}
 use Rattle.memory.specs.Bytes.{Cells, loaded}
 use Rattle.memory.specs.declared.access.Access.{Access}
 use Rattle.memory.specs.declared.access.Access.TheVariants.{Load, Store}
 
 -- the elements of a list by their places, those in use
 abbrev pub cells_of : (ℕ → Bool) → List ℕ → Cells
-cells_of used xs = λ k. cond (used k && nat_lt k (length xs)) (Some (slice_index xs k)) None
+cells_of used xs = λ k. if used k && nat_lt k (length xs) then Some (slice_index xs k) else None
 
 -- ROM uses at most 16,384 words; RAM at most 65,536 bytes; paged RAM those of them whose page, of 256 bytes, is there
 abbrev pub rom_uses : ℕ → Bool
@@ -31,4 +31,4 @@ set_bytes bytes place (suc n) value = set_bytes (slice_set bytes place (value % 
 abbrev pub bytes_after : (ℕ → Bool) → List ℕ → Access → List ℕ
 bytes_after used bytes (Load address width) = bytes
 bytes_after used bytes (Store address width value) =
-    cond (is_some (loaded (cells_of used bytes) address width)) (set_bytes bytes address width value) bytes
+    if is_some (loaded (cells_of used bytes) address width) then set_bytes bytes address width value else bytes

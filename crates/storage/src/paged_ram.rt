@@ -1,19 +1,18 @@
 // RAM of which some pages are missing.
 ghost use Rattle.std.specs.Prelude.{◌≡◌, Bool, List, length};
 ghost use Rattle.std.specs.Borrow.{GName};
-ghost use Rattle.std.proofs.Common.{zero-le};
-ghost use Rattle.memory.specs.Bytes.{Cells, plain};
-ghost use Rattle.memory.specs.Plain.{Plainly, plain_grounded};
-ghost use Rattle.memory.specs.Promise.{answer_of};
-ghost use Rattle.memory.specs.declared.access.Access.TheVariants.{Load, Store};
+ghost use Rattle.std.specs.Option.{option_map};
+ghost use Rattle.std.proofs.Common.{rules};
+ghost use Rattle.memory.specs.Bytes.{Cells, loaded, plain};
+ghost use Rattle.memory.specs.declared.access.Access.TheVariants.{Store};
 ghost use Rattle.storage.specs.Behaviour.{Accessed};
-ghost use Rattle.storage.specs.Contents.{cells_of, paged_uses};
+ghost use Rattle.storage.specs.Contents.{cells_of, paged_uses, bytes_after};
 ghost use Rattle.storage.specs.Limits.{checked_by};
 
 use crate::bytes;
 use crate::bytes::RAM_LIMIT;
 use crate::limit::{LimitRefusal, check_length};
-use memory::{Answer, DataMemory, PlainMemory};
+use memory::{Access, Answer, DataMemory, Memory, PlainMemory};
 
 // How many bytes a page has.
 const PAGE: usize = 256;
@@ -59,29 +58,34 @@ impl<'a> PagedRam<'a> {
         place < RAM_LIMIT && self.pages[place / PAGE]
     }
 
-    fn read(&self, address: u32, width: u32) -> Answer
-        ensures { result ≡ answer_of (plain (cells_of (paged_uses self.now.pages) self.now.bytes.now) (Load address width)) }
+    // An access lies within one page, as its address is a multiple of its width.
+    fn read(&self, address: u32, width: u32) -> Option<u32>
+        ensures { result ≡ loaded (cells_of (paged_uses self.now.pages) self.now.bytes.now) address width }
     {
         if self.has_page(address) {
             bytes::load(self.bytes, address, width)
         } else {
-            Answer::Absent
+            None
         }
     }
 
-    fn write(&mut self, address: u32, width: u32, value: u32) -> Answer
-        ensures exact { Accessed (paged_uses self.old.pages) self.old.bytes (Store address width value) result self.new.bytes }
+    fn write(&mut self, address: u32, width: u32, value: u32) -> Option<u32>
+        ensures value { result ≡ option_map (λ _. 0) (loaded (cells_of (paged_uses self.old.pages) self.old.bytes.now) address width) }
+        ensures bytes { self.new.bytes.now ≡ bytes_after (paged_uses self.old.pages) self.old.bytes.now (Store address width value) }
+        ensures lent { self.new.bytes.ghost_name ≡ self.old.bytes.ghost_name }
         ensures pages { self.new.pages ≡ self.old.pages }
     {
         if self.has_page(address) {
             bytes::store(self.bytes, address, width, value)
         } else {
-            Answer::Absent
+            None
         }
     }
 }
 
-impl<'a> DataMemory for PagedRam<'a> {
+impl<'a> Memory for PagedRam<'a> {
+    type Asked = Access;
+
     ghost Meaning = { Cells };
 
     ghost means = { λ s. cells_of (paged_uses s.pages) s.bytes.now };
@@ -89,8 +93,6 @@ impl<'a> DataMemory for PagedRam<'a> {
     ghost does = { plain };
 
     ghost shows = { λ m. m };
-
-    ghost grounded = { plain_grounded };
 
     ghost waits = { λ _ _. 0 };
 
@@ -102,18 +104,23 @@ impl<'a> DataMemory for PagedRam<'a> {
 
     ghost longest = { λ _. 0 };
 
-    ghost bounded = { λ _ _ _. zero-le };
-
     ghost behaves = { λ s x r t. Accessed (paged_uses s.pages) s.bytes x r t.bytes × (t.pages ≡ s.pages) };
 
-    fn load(&mut self, address: u32, width: u32) -> Answer {
-        self.read(address, width)
+    fn ask(&mut self, access: Access) -> Answer {
+        match access {
+            Access::Load { address, width } => self.read(address, width).into(),
+            Access::Store {
+                address,
+                width,
+                value,
+            } => self.write(address, width, value).into(),
+        }
     }
 
-    fn store(&mut self, address: u32, width: u32, value: u32) -> Answer {
-        self.write(address, width, value)
-    }
+    ghost bounded = { Prim.search rules };
+}
 
+impl<'a> DataMemory for PagedRam<'a> {
     fn look(&self, address: u32) -> Option<u8> {
         if self.has_page(address) {
             bytes::look(self.bytes, address)
@@ -121,10 +128,10 @@ impl<'a> DataMemory for PagedRam<'a> {
             None
         }
     }
+
+    ghost grounded = { Prim.search rules };
 }
 
 impl<'a> PlainMemory for PagedRam<'a> {
-    fn promise()
-        ensures { Plainly plain (λ m. m) }
-    {}
+    ghost plainly = { Prim.search rules };
 }

@@ -1,11 +1,8 @@
 // RAM over the caller's bytes.
 ghost use Rattle.std.specs.Prelude.{◌≡◌, length};
 ghost use Rattle.std.specs.Borrow.{GName};
-ghost use Rattle.std.proofs.Common.{zero-le};
-ghost use Rattle.memory.specs.Bytes.{Cells, plain};
-ghost use Rattle.memory.specs.Plain.{Plainly, plain_grounded};
-ghost use Rattle.memory.specs.Promise.{answer_of};
-ghost use Rattle.memory.specs.declared.access.Access.TheVariants.{Load};
+ghost use Rattle.std.proofs.Common.{rules};
+ghost use Rattle.memory.specs.Bytes.{Cells, loaded, plain};
 ghost use Rattle.storage.specs.Behaviour.{Accessed};
 ghost use Rattle.storage.specs.Contents.{cells_of, ram_uses};
 ghost use Rattle.storage.specs.Limits.{checked_by};
@@ -13,7 +10,7 @@ ghost use Rattle.storage.specs.Limits.{checked_by};
 use crate::bytes;
 use crate::bytes::RAM_LIMIT;
 use crate::limit::{LimitRefusal, check_length};
-use memory::{Answer, DataMemory, PlainMemory};
+use memory::{Access, Answer, DataMemory, Memory, PlainMemory};
 
 // A data memory over the caller's bytes, from address 0. It never waits.
 #[derive(Drop)]
@@ -46,14 +43,16 @@ impl<'a> Ram<'a> {
         bytes
     }
 
-    fn read(&self, address: u32, width: u32) -> Answer
-        ensures { result ≡ answer_of (plain (cells_of ram_uses self.now.bytes.now) (Load address width)) }
+    fn read(&self, address: u32, width: u32) -> Option<u32>
+        ensures { result ≡ loaded (cells_of ram_uses self.now.bytes.now) address width }
     {
         bytes::load(self.bytes, address, width)
     }
 }
 
-impl<'a> DataMemory for Ram<'a> {
+impl<'a> Memory for Ram<'a> {
+    type Asked = Access;
+
     ghost Meaning = { Cells };
 
     ghost means = { λ s. cells_of ram_uses s.bytes.now };
@@ -61,8 +60,6 @@ impl<'a> DataMemory for Ram<'a> {
     ghost does = { plain };
 
     ghost shows = { λ m. m };
-
-    ghost grounded = { plain_grounded };
 
     ghost waits = { λ _ _. 0 };
 
@@ -74,25 +71,30 @@ impl<'a> DataMemory for Ram<'a> {
 
     ghost longest = { λ _. 0 };
 
-    ghost bounded = { λ _ _ _. zero-le };
-
     ghost behaves = { λ s x r t. Accessed ram_uses s.bytes x r t.bytes };
 
-    fn load(&mut self, address: u32, width: u32) -> Answer {
-        self.read(address, width)
+    fn ask(&mut self, access: Access) -> Answer {
+        match access {
+            Access::Load { address, width } => self.read(address, width).into(),
+            Access::Store {
+                address,
+                width,
+                value,
+            } => bytes::store(self.bytes, address, width, value).into(),
+        }
     }
 
-    fn store(&mut self, address: u32, width: u32, value: u32) -> Answer {
-        bytes::store(self.bytes, address, width, value)
-    }
+    ghost bounded = { Prim.search rules };
+}
 
+impl<'a> DataMemory for Ram<'a> {
     fn look(&self, address: u32) -> Option<u8> {
         bytes::look(self.bytes, address)
     }
+
+    ghost grounded = { Prim.search rules };
 }
 
 impl<'a> PlainMemory for Ram<'a> {
-    fn promise()
-        ensures { Plainly plain (λ m. m) }
-    {}
+    ghost plainly = { Prim.search rules };
 }

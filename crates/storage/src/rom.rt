@@ -1,14 +1,14 @@
 // ROM over the caller's words.
 ghost use Rattle.std.specs.Prelude.{◌≡◌, ℕ, List, length};
-ghost use Rattle.std.proofs.Common.{zero-le};
+ghost use Rattle.std.proofs.Common.{rules};
 ghost use Rattle.std.specs.Borrow.{Bor};
-ghost use Rattle.memory.specs.Bytes.{fetched};
+ghost use Rattle.memory.specs.Bytes.{Cells, fetched};
 ghost use Rattle.memory.specs.Promise.{answer_of};
 ghost use Rattle.storage.specs.Contents.{rom_words};
 ghost use Rattle.storage.specs.Limits.{checked_by};
 
 use crate::limit::{LimitRefusal, check_length};
-use memory::{Answer, ProgramMemory};
+use memory::{Answer, Memory, ProgramMemory};
 
 // The most words that ROM uses.
 pub const ROM_LIMIT: usize = 16384;
@@ -35,8 +35,16 @@ impl<'a> Rom<'a> {
     }
 }
 
-impl<'a> ProgramMemory for Rom<'a> {
-    ghost words = { λ s. rom_words s.words.now };
+impl<'a> Memory for Rom<'a> {
+    type Asked = u32;
+
+    ghost Meaning = { Cells };
+
+    ghost means = { λ s. rom_words s.words.now };
+
+    ghost does = { fetched };
+
+    ghost shows = { λ m. m };
 
     ghost waits = { λ _ _. 0 };
 
@@ -48,23 +56,24 @@ impl<'a> ProgramMemory for Rom<'a> {
 
     ghost longest = { λ _. 0 };
 
-    ghost bounded = { λ _ _ _. zero-le };
-
     ghost behaves = { λ s address r t. (r ≡ answer_of (fetched (rom_words s.words.now) address)) × (t ≡ s) };
 
-    fn fetch(&mut self, address: u32) -> Answer {
-        match self.look(address) {
-            Some(word) => Answer::Done(word),
-            None => Answer::Absent,
-        }
+    fn ask(&mut self, address: u32) -> Answer {
+        Answer::from(self.look(address))
     }
 
+    ghost bounded = { Prim.search rules };
+}
+
+impl<'a> ProgramMemory for Rom<'a> {
     fn look(&self, address: u32) -> Option<u32> {
         let place = (address / 4) as usize;
-        if address % 4 == 0 && place < ROM_LIMIT && place < self.words.len() {
-            Some(self.words[place])
+        if address % 4 == 0 && place < ROM_LIMIT {
+            self.words.get(place).copied()
         } else {
             None
         }
     }
+
+    ghost fetches = { Prim.search rules };
 }

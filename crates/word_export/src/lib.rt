@@ -7,15 +7,15 @@ ghost use Rattle.word_export.specs.Canon.{written};
 
 use instruction::{decode, encode};
 
+// The answer where a word is illegal: C knows no Option, and 2^32 is no word.
+const ILLEGAL: u64 = 1 << 32;
+
 // The word that the instruction of `word` is written as; 2^32 where `word` is illegal.
 #[unsafe(no_mangle)]
 pub extern "C" fn canonical_word(word: u32) -> u64
     ensures { result ≡ written (decoded_of word) }
 {
-    let Some(instruction) = decode(word) else {
-        return 1 << 32;
-    };
-    u64::from(encode(instruction))
+    decode(word).map_or(ILLEGAL, |instruction| u64::from(encode(instruction)))
 }
 
 #[cfg(test)]

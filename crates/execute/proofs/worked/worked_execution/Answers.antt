@@ -2,14 +2,12 @@ use Rattle.std.proofs.Common.{refl, ◌∙◌, mod-eq_of_lt}
 use lib.Count.{count_trailing_zeros}
 use Rattle.std.proofs.lemmas.Nat.{and_mask}
 use Rattle.instruction.proofs.Reading.{reads}
-use Rattle.execute.specs.Extension.{sign_extended, constant_of}
-use Rattle.execute.specs.Causes.{with_cause, counted_of, level_of}
 use Rattle.execute.specs.Worked.{copy}
 use Rattle.execute.proofs.worked.worked_execution.Goals as goal
 
-pub returns : goal.returns
-unfolding sign_extended constant_of with_cause counted_of level_of count_trailing_zeros
-returns c = record {
+pub returns-clause-worked : goal.returns-clause-worked
+unfolding count_trailing_zeros
+returns-clause-worked c = record {
   copy_read = reads 0x3022FFFF copy (refl, (refl, (refl, (refl, tt))));
   copied = λ a h. and_mask a 32 ∙ mod-eq_of_lt h;
   sum = refl;

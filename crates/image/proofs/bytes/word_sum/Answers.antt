@@ -10,6 +10,6 @@ loop-i-preserved c = search (rules, bytes_more)
 
 pub returns : goal.returns
 returns c =
-    let b = c.args.block.now in
+    let b = c.args.bytes.now in
     let n : c.loop-i.i ≡ 508 = omega (arith, length-take 508 b) in
     c.loop-i.invariant ∙ ap (λ s. s % 2 ^ 32) (ap (byte_sum (take 508 b)) n ∙ bytes_take b 508 508 (omega arith) ∙ bytes_words b 127)
