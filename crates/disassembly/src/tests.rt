@@ -43,6 +43,8 @@ fn a_refusal_changes_nothing(rt: HostRuntime) -> Result<(), Fail> {
         return Err(Fail::new("the payload passes the memory's end"));
     };
     assert!(rt; refusal.fault.number() == 8 && refusal.block == 0);
+    let text = format!(in rt.alloc(); "{}", ListError::from(refusal))?;
+    assert!(rt; text.as_str() == "refused 8 block 0");
     assert!(rt; program == [7; 2]);
     Ok(())
 }

@@ -29,7 +29,7 @@ pub fn flow(instruction: Instruction) -> Flow
 
 // The next pair of addresses. `next_pc` is the second address of the pair of now, `operand` the word of the
 // instruction's first register, and `saved` the pair that an interrupt saved.
-// Pairs of addresses are tuples, the form that is prescribed for them.
+// Pairs of addresses are tuples, the form that is prescribed for them (DECISIONS.md, Forms).
 pub fn next_pair(
     flow: Flow,
     next_pc: u32,

@@ -23,29 +23,30 @@ fn run(rt: &HostRuntime) -> anyhow::Result<()> {
     Ok(())
 }
 
-// A command, the name or the number after it, and up to four words that follow, of which those left out are 0.
+// A command, the name or the number after it, and the words that follow, of which those left out are 0.
 // A match on the command: its functions take different things, so a table of closures would be no plainer.
 fn answer(text: &mut String, line: &str) -> anyhow::Result<()> {
     let mut parts = line.split_whitespace();
     let command = parts.next().unwrap_or("");
     let name = parts.next().unwrap_or("");
-    let mut words = [0; 4];
-    for (place, digits) in words.iter_mut().zip(parts) {
-        *place = word(digits)?;
-    }
-    let [a, b, edpc, epc] = words;
+    let a = word(parts.next().unwrap_or("0"))?;
+    let b = word(parts.next().unwrap_or("0"))?;
     match command {
         "alu" => write_alu(text, alu_op(name).context("no such operation")?, a, b),
         "shift" => {
             let op = shift_op(name).context("no such shift")?;
             write_word(text, shift(op, a, b))
         }
-        "test" => write_test(text, relations(word(name)?), a, b),
+        "test" => write_test(text, Relations::from(word(name)?), a, b),
         "high" => write_word(text, load_high(word(name)?)),
         "load" => write_load(text, load_kind(name).context("no such load")?, a),
         "place" => write_place(text, width(name).context("no such load or store")?, a, b),
-        "extend" => write_word(text, extended(name, a)?),
-        "next" => write_next(text, word(name)?, a, b, (edpc, epc)),
+        "extend" => write_word(text, extended(name, a).context("no such field")?),
+        "next" => {
+            let edpc = word(parts.next().unwrap_or("0"))?;
+            let epc = word(parts.next().unwrap_or("0"))?;
+            write_next(text, word(name)?, a, b, (edpc, epc))
+        }
         "cause" => write_cause(text, cause(name), a, b),
         _ => bail!("no such command"),
     }
@@ -55,7 +56,7 @@ fn word(digits: &str) -> anyhow::Result<u32> {
     Ok(u32::from_str_radix(digits, 16)?)
 }
 
-// The kinds of operations are types of another crate, so their names are read by functions, and not by `FromStr`.
+// Names are read by lists of this program's own, and not by a `FromStr` of `instruction`: what tries a crate does not lean on it.
 fn alu_op(name: &str) -> Option<AluOp> {
     match name {
         "add" => Some(AluOp::Add),
@@ -75,15 +76,6 @@ fn shift_op(name: &str) -> Option<ShiftOp> {
         "srl" => Some(ShiftOp::Right),
         "sra" => Some(ShiftOp::RightArithmetic),
         _ => None,
-    }
-}
-
-// The code's bits ask for greater, equal and less.
-fn relations(code: u32) -> Relations {
-    Relations {
-        greater: code & 1 != 0,
-        equal: code & 2 != 0,
-        less: code & 4 != 0,
     }
 }
 
@@ -128,11 +120,11 @@ fn cause(number: &str) -> Option<Cause> {
 }
 
 // A field's number as a word.
-fn extended(field: &str, number: u32) -> anyhow::Result<u32> {
+fn extended(field: &str, number: u32) -> Option<u32> {
     match field {
-        "imm" => Ok(extend_immediate(Immediate::try_from(number)?)),
-        "offset" => Ok(extend_offset(Offset::try_from(number)?)),
-        _ => bail!("no such field"),
+        "imm" => Some(extend_immediate(Immediate::try_from(number).ok()?)),
+        "offset" => Some(extend_offset(Offset::try_from(number).ok()?)),
+        _ => None,
     }
 }
 

@@ -18,6 +18,17 @@ fault_number Address = 8
 fault_number Stray = 9
 fault_number End = 10
 
+-- The rules as people call them.
+abbrev pub fault_text : Fault → List ℕ
+fault_text Size = codes "wrong size"
+fault_text Check = codes "wrong check"
+fault_text Number = codes "wrong number"
+fault_text Kind = codes "wrong kind"
+fault_text Count = codes "wrong count"
+fault_text Address = codes "wrong address"
+fault_text Stray = codes "stray byte"
+fault_text End = codes "wrong end"
+
 -- Size: the image has 0 bytes, more than 65,536, or no multiple of 512.
 abbrev pub wrong_size : List ℕ → Bool
 wrong_size image = length image == 0 || nat_lt 65536 (length image) || not (length image % 512 == 0)

@@ -1,7 +1,7 @@
 // One block, read from its 512 bytes by the rules.
 ghost use Rattle.std.specs.Prelude.{◌≡◌, ◌≤◌, false};
 ghost use Rattle.image.specs.Format.{kind_number, kind_byte, zero_byte, count_of, address_of, payload_of};
-ghost use Rattle.image.specs.Rules.{wrong_check, wrong_number, wrong_kind, wrong_count, wrong_address, wrong_rest, wrong_end};
+ghost use Rattle.image.specs.Rules.{wrong_kind, wrong_count, wrong_address, wrong_rest};
 ghost use Rattle.image.specs.Reading.{Parsed, Ruled};
 
 use crate::bytes::{BLOCK, CHECK_AT, all_zero, word_at, word_sum};
@@ -31,13 +31,14 @@ pub(crate) fn parse<'a>(
 ) -> Result<Block<'a>, Fault>
     ensures { Parsed bytes.now place last ends result }
 {
-    verify_check(bytes)?;
-    verify_number(bytes, place)?;
+    rule(word_at(bytes, CHECK_AT) != word_sum(bytes), Fault::Check)?;
+    rule(word_at(bytes, 0) as usize != place, Fault::Number)?;
     let kind = read_kind(bytes)?;
     let count = read_count(bytes, kind)?;
     let address = read_address(bytes, kind, count, ends)?;
     let payload = read_payload(bytes, count)?;
-    verify_end(kind, last)?;
+    // An end block stands last, and nothing else does.
+    rule((kind == Kind::End) != last, Fault::End)?;
     Ok(Block {
         place,
         kind,
@@ -46,22 +47,11 @@ pub(crate) fn parse<'a>(
     })
 }
 
-fn verify_check(bytes: &[u8; BLOCK]) -> Result<(), Fault>
-    ensures { Ruled (wrong_check bytes.now) Fault.Check (λ _. Unit {0}) result }
+// A rule that reads nothing: its fault where it is broken.
+fn rule(broken: bool, fault: Fault) -> Result<(), Fault>
+    ensures { Ruled broken fault (λ _. Unit {0}) result }
 {
-    if word_at(bytes, CHECK_AT) != word_sum(bytes) {
-        return Err(Fault::Check);
-    }
-    Ok(())
-}
-
-fn verify_number(bytes: &[u8; BLOCK], place: usize) -> Result<(), Fault>
-    ensures { Ruled (wrong_number bytes.now place) Fault.Number (λ _. Unit {0}) result }
-{
-    if word_at(bytes, 0) as usize != place {
-        return Err(Fault::Number);
-    }
-    Ok(())
+    if broken { Err(fault) } else { Ok(()) }
 }
 
 // The kind that byte 4 says, where byte 5 is 0.
@@ -108,14 +98,4 @@ fn read_payload<'a>(bytes: &'a [u8; BLOCK], count: u16) -> Result<&'a [u8], Faul
         return Err(Fault::Stray);
     }
     Ok(&bytes[PAYLOAD_AT..PAYLOAD_AT + count])
-}
-
-// An end block stands last, and nothing else does.
-fn verify_end(kind: Kind, last: bool) -> Result<(), Fault>
-    ensures { Ruled (wrong_end (kind_number kind) last) Fault.End (λ _. Unit {0}) result }
-{
-    if (kind == Kind::End) != last {
-        return Err(Fault::End);
-    }
-    Ok(())
 }

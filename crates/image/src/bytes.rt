@@ -21,7 +21,7 @@ pub(crate) fn word_sum(bytes: &[u8; BLOCK]) -> u32
 {
     let words = &bytes[0..CHECK_AT];
     let mut sum = 0u32;
-    // A form prescribed for the check: a loop over the bytes, with a sum that wraps.
+    // A form prescribed for the check (DECISIONS.md, Forms): a loop over the bytes, with a sum that wraps.
     for (i, byte) in words.iter().enumerate() {
         sum = sum.wrapping_add(u32::from(*byte) << (8 * (i % 4)));
     }

@@ -1,9 +1,9 @@
 // Kinds and refusals as text for people.
 ghost use Rattle.std.specs.Prelude.{Some};
 ghost use Rattle.image.specs.Format.{kind_text};
-ghost use Rattle.image.specs.Rules.{refusal_text};
+ghost use Rattle.image.specs.Rules.{fault_text, refusal_text};
 
-use crate::{Kind, Refusal};
+use crate::{Fault, Kind, Refusal};
 use std::error::Error;
 use std::fmt;
 
@@ -19,6 +19,26 @@ impl fmt::Display for Kind {
         })
     }
 }
+
+// The rule that is broken
+impl fmt::Display for Fault {
+    ghost output = { λ fault. Some (fault_text fault) };
+
+    fn fmt<W: fmt::Write>(&self, f: &mut fmt::Formatter<W>) -> fmt::Result {
+        f.write_str(match self {
+            Fault::Size => "wrong size",
+            Fault::Check => "wrong check",
+            Fault::Number => "wrong number",
+            Fault::Kind => "wrong kind",
+            Fault::Count => "wrong count",
+            Fault::Address => "wrong address",
+            Fault::Stray => "stray byte",
+            Fault::End => "wrong end",
+        })
+    }
+}
+
+impl Error for Fault {}
 
 // refused N block B
 impl fmt::Display for Refusal {

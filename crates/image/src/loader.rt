@@ -20,7 +20,8 @@ pub fn load(image: &[u8], program: &mut [u32], data: &mut [u8]) -> Result<(), Re
 }
 
 // Puts the blocks of an accepted image, so that no block is refused.
-// The two memories stay two slices, as `load` is given them: a struct would be made for this one call.
+// The two memories stay two slices: `load` is lent them apart, and each clause says of one what becomes of it, so that a struct of both
+// would be made in `load` and taken apart in every clause.
 fn put_blocks(image: &[u8], program: &mut [u32], data: &mut [u8]) -> Result<(), Refusal>
     requires unrefused { first_refusal image.now (ends_of program.old «data».old) ≡ None }
     requires accepted { Accepted image.now (ends_of program.old «data».old) }

@@ -33,6 +33,7 @@ fn kinds_have_bytes_and_names(rt: HostRuntime) -> Result<(), Fail> {
     assert_eq!(rt; Kind::try_from(2), Ok(Kind::Data));
     assert_eq!(rt; Kind::try_from(4), Err(Fault::Kind));
     assert!(rt; format!(in rt.alloc(); "{}", Kind::End)?.as_str() == "end");
+    assert!(rt; format!(in rt.alloc(); "{}", Fault::Stray)?.as_str() == "stray byte");
     Ok(())
 }
 

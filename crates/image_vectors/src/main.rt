@@ -100,9 +100,12 @@ fn number(words: &mut SplitWhitespace) -> anyhow::Result<usize> {
     Ok(words.next().unwrap_or("").parse()?)
 }
 
-// A hexadecimal digit's value, or 0 for another character.
+// The value of a hexadecimal digit in lower case, or 0 for another character.
 fn nibble(digit: u8) -> u8 {
-    char::from(digit).to_digit(16).unwrap_or(0) as u8
+    let value = char::from(digit)
+        .to_digit(16)
+        .filter(|_| !digit.is_ascii_uppercase());
+    value.unwrap_or(0) as u8
 }
 
 // The sum of the words of four bytes, lowest first, modulo 2^32.
@@ -115,9 +118,9 @@ fn word_sum(bytes: &[u8]) -> u32 {
 
 // The sum of the values, each times its place from 1, modulo 2^32.
 fn weighed<T: Copy + Into<u32>>(values: &[T]) -> u32 {
-    values
-        .iter()
-        .zip(1..=u32::MAX)
-        .map(|(value, weight)| weight.wrapping_mul((*value).into()))
-        .fold(0, u32::wrapping_add)
+    let (sum, _) = values.iter().fold((0u32, 1u32), |(sum, place), value| {
+        let term = place.wrapping_mul((*value).into());
+        (sum.wrapping_add(term), place.wrapping_add(1))
+    });
+    sum
 }

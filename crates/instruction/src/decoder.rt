@@ -20,7 +20,8 @@ pub fn decode(word: u32) -> Option<Instruction>
     }
 }
 
-// The instruction of a word with this opcode.
+// The instruction of a word with this opcode. The rows stand as in the table, one for each opcode: the opposite of a discriminant, of
+// which no cast goes from the number to the case.
 fn decode_opcode(opcode: u32, word: u32) -> Option<Instruction>
     requires { opcode ≢ 0 }
     ensures { result ≡ by_opcode opcode word }

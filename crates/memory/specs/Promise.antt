@@ -1,5 +1,5 @@
 -- What every call of a memory promises, by what the memory means and by the waits that are open.
-use Rattle.std.specs.Prelude.{◌≡◌, ℕ, ◌<◌, true, is_some, Some, None, Option}
+use Rattle.std.specs.Prelude.{◌≡◌, ℕ, ◌<◌, true, List, ◌++◌, codes, decimal, is_some, Some, None, Option}
 use Rattle.std.specs.Option.{option_map}
 use Rattle.memory.specs.Bytes.{Cells, loaded, word_at}
 use Rattle.memory.specs.declared.access.Access.{Access}
@@ -15,6 +15,12 @@ Effect M = Option (ℕ × M)
 abbrev pub answer_with : Option ℕ → Answer
 answer_with None = Absent
 answer_with (Some value) = Done value
+
+-- an answer as people read it
+abbrev pub answer_text : Answer → List ℕ
+answer_text (Done value) = codes "done " ++ decimal value
+answer_text Absent = codes "absent"
+answer_text Wait = codes "wait"
 
 abbrev pub answer_of : {M : Type 0} → Effect M → Answer
 answer_of None = Absent

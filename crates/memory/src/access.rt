@@ -1,6 +1,8 @@
 // What memories are asked, and what they answer.
-ghost use Rattle.std.specs.Prelude.{◌≡◌};
-ghost use Rattle.memory.specs.Promise.{answer_with};
+ghost use Rattle.std.specs.Prelude.{◌≡◌, Some};
+ghost use Rattle.memory.specs.Promise.{answer_text, answer_with};
+
+use std::fmt;
 
 // A load or a store. The width is the number of bytes, lowest first; a memory answers absent where it is not 1, 2 or 4.
 // It is a number, and not an enum of the three: a rule of memories says what any other width is answered.
@@ -39,5 +41,18 @@ impl From<Option<u32>> for Answer {
 
     fn from(value: Option<u32>) -> Answer {
         value.map_or(Answer::Absent, Answer::Done)
+    }
+}
+
+// done VALUE, absent or wait
+impl fmt::Display for Answer {
+    ghost output = { λ answer. Some (answer_text answer) };
+
+    fn fmt<W: fmt::Write>(&self, f: &mut fmt::Formatter<W>) -> fmt::Result {
+        match self {
+            Answer::Done(value) => write!(f, "done {value}"),
+            Answer::Absent => f.write_str("absent"),
+            Answer::Wait => f.write_str("wait"),
+        }
     }
 }

@@ -6,7 +6,7 @@ use crate::access::{Access, Answer};
 use crate::promise::Memory;
 
 // A memory that is asked loads and stores alone.
-pub trait DataMemory: Memory<Asked = Access> {
+pub trait DataMemory: Memory<Access> {
     // The byte that an address shows, without a wait and without a trace.
     fn look(&self, address: u32) -> Option<u8>
         requires { Self.sound self.now }

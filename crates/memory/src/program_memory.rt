@@ -6,7 +6,7 @@ use crate::access::Answer;
 use crate::promise::Memory;
 
 // A memory of words, at the multiples of 4 below 2^32, that is asked fetches alone, by their address. No call alters its words.
-pub trait ProgramMemory: Memory<Asked = u32> {
+pub trait ProgramMemory: Memory<u32> {
     // The word that an address means, without a wait and without a trace.
     fn look(&self, address: u32) -> Option<u32>
         requires { Self.sound self.now }

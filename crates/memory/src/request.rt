@@ -1,5 +1,6 @@
 // Requests by the types that they are made with.
 ghost use Rattle.std.specs.Prelude.{◌≡◌};
+ghost use Rattle.std.proofs.Common.{rules};
 ghost use Rattle.memory.specs.declared.access.Request.{Request};
 ghost use Rattle.memory.specs.declared.access.Request.TheVariants.{Fetch, Data};
 
@@ -11,6 +12,9 @@ pub trait AsRequest: Copy {
 
     fn as_request(self) -> Request
         ensures { result ≡ request self };
+
+    // Different values are different requests.
+    ghost distinct: { (x y : Self) → request x ≡ request y → x ≡ y };
 }
 
 // A program memory is asked fetches, by their address.
@@ -20,6 +24,8 @@ impl AsRequest for u32 {
     fn as_request(self) -> Request {
         Request::Fetch(self)
     }
+
+    ghost distinct = { Prim.search rules };
 }
 
 // A data memory is asked loads and stores.
@@ -29,4 +35,6 @@ impl AsRequest for Access {
     fn as_request(self) -> Request {
         Request::Data(self)
     }
+
+    ghost distinct = { Prim.search rules };
 }

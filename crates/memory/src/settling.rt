@@ -1,12 +1,13 @@
-// A request that is repeated until it is answered; the open waits fall with each wait.
+// A request which is repeated until it is answered; the open waits fall with each wait.
 ghost use Rattle.memory.specs.Calls.{Settles, FetchSettled};
 
 use crate::access::Answer;
 use crate::program_memory::ProgramMemory;
 use crate::promise::Memory;
+use crate::request::AsRequest;
 
 // The value of a load, 0 for a store, the word of a fetch, or nothing where it is absent.
-pub fn settle<M: Memory>(memory: &mut M, asked: M::Asked) -> Option<u32>
+pub fn settle<A: AsRequest, M: Memory<A>>(memory: &mut M, asked: A) -> Option<u32>
     requires { M.sound memory.old }
     ensures { Settles M.Memory memory.old asked result memory.new }
 {

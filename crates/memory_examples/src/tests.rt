@@ -140,14 +140,16 @@ fn states_laws() {
     promises_plain_bytes::<Ram>();
     promises_plain_bytes::<PagedRam>();
     promises_plain_bytes::<Slow<Ram>>();
-    Slow::<Rom>::repeated();
-    Slow::<Ram>::repeated();
+    Slow::<Rom>::repeated::<u32>();
+    Slow::<Ram>::repeated::<Access>();
 }
 
 #[test]
 fn tells_refusals_to_people(rt: HostRuntime) -> Result<(), Fail> {
     let waits = format!(in rt.alloc(); "{}", WaitsRefusal::TooMany)?;
     assert!(rt; waits.as_str() == "more than 255 waits");
+    let answer = format!(in rt.alloc(); "{} {}", Answer::Done(7), Answer::Absent)?;
+    assert!(rt; answer.as_str() == "done 7 absent");
     let length = format!(in rt.alloc(); "{}", LimitRefusal::TooLong)?;
     assert!(rt; length.as_str() == "more words or bytes than the memory uses");
     Ok(())

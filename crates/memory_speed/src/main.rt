@@ -58,7 +58,8 @@ fn time<D: DataMemory>(
     Ok(())
 }
 
-// The sum, modulo 2^32, of the words loaded one after another.
+// The sum, modulo 2^32, of the words loaded one after another. A loop: the closure of a fold would have to carry the condition of the
+// memory from call to call.
 fn sum_of_loads<D: DataMemory>(memory: &mut D, count: u32) -> u32
     requires { D.sound memory.old }
 {

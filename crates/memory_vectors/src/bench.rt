@@ -3,21 +3,6 @@ use crate::command::Command;
 use memory::{Answer, DataMemory, Memory, ProgramMemory, Request, settle, settle_fetch};
 use memory_examples::{ask_each_once, settle_each};
 use std::alloc::AllocError;
-use std::fmt;
-
-// An answer as it is printed.
-#[derive(Clone, Copy)]
-struct Shown(Answer);
-
-impl fmt::Display for Shown {
-    fn fmt<W: fmt::Write>(&self, f: &mut fmt::Formatter<W>) -> fmt::Result {
-        match self.0 {
-            Answer::Done(value) => write!(f, "done {value}"),
-            Answer::Absent => write!(f, "absent"),
-            Answer::Wait => write!(f, "wait"),
-        }
-    }
-}
 
 // Follows the commands in order.
 pub fn answer_all<P: ProgramMemory, D: DataMemory>(
@@ -73,11 +58,11 @@ fn answer<P: ProgramMemory, D: DataMemory>(
 
 // The answer that an access had, or the value or nothing that it had settled on.
 fn show<A: Into<Answer>>(answers: &mut String, answer: A) -> Result<(), AllocError> {
-    let answer = Shown(answer.into());
+    let answer = answer.into();
     writeln!(answers, "{answer}")
 }
 
 fn show_both<A: Into<Answer>>(answers: &mut String, word: A, value: A) -> Result<(), AllocError> {
-    let (word, value) = (Shown(word.into()), Shown(value.into()));
+    let (word, value) = (word.into(), value.into());
     writeln!(answers, "{word} / {value}")
 }

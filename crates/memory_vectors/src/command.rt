@@ -4,7 +4,7 @@ use anyhow::anyhow;
 use memory::{Access, Request};
 use std::str::SplitWhitespace;
 
-#[derive(Clone, Copy)]
+#[derive(Clone, Copy, Debug, PartialEq, Eq)]
 pub enum Command {
     Once(Request),
     Settle(Request),

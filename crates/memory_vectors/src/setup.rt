@@ -5,14 +5,21 @@ use std::array;
 use std::str::SplitWhitespace;
 
 // The pages of paged RAM that are there, and the waits of the layer next to it.
-#[derive(Clone, Copy)]
+#[derive(Clone, Copy, Debug, PartialEq, Eq)]
 pub struct Paging {
     pub waits: u32,
     pub marks: [bool; 256],
 }
 
+impl Paging {
+    fn new(waits: u32, digits: &str) -> anyhow::Result<Paging> {
+        let marks = marks(digits)?;
+        Ok(Paging { waits, marks })
+    }
+}
+
 // The lengths and waits of both memories. RAM without pages has one layer alone, the outer one.
-#[derive(Clone, Copy)]
+#[derive(Clone, Copy, Debug, PartialEq, Eq)]
 pub struct Setup {
     pub data_waits: u32,
     pub bytes: usize,
@@ -31,19 +38,11 @@ pub fn parse(line: &str) -> anyhow::Result<Option<Setup>> {
         _ => return Ok(None),
     };
     let data_waits = number(&mut parts)?;
-    let inner = if paged {
-        Some(number(&mut parts)?)
-    } else {
-        None
-    };
+    let inner = paged.then(|| number(&mut parts)).transpose()?;
     let bytes = number(&mut parts)? as usize;
-    let paging = match inner {
-        Some(waits) => Some(Paging {
-            waits,
-            marks: marks(parts.next().unwrap_or(""))?,
-        }),
-        None => None,
-    };
+    let paging = inner
+        .map(|waits| Paging::new(waits, parts.next().unwrap_or("")))
+        .transpose()?;
     Ok(Some(Setup {
         data_waits,
         bytes,
@@ -63,10 +62,15 @@ fn marks(digits: &str) -> anyhow::Result<[bool; 256]> {
     let Some(digits) = digits.as_bytes().first_chunk::<64>() else {
         return Err(anyhow!("64 digits for the pages"));
     };
-    Ok(array::from_fn(|page| {
-        let digit = char::from(digits[page / 4]).to_digit(16).unwrap_or(0);
-        digit << (page % 4) & 8 != 0
-    }))
+    Ok(array::from_fn(|page| { nibble(digits[page / 4]) << (page % 4) & 8 != 0 }))
+}
+
+// The value of a hexadecimal digit in lower case, or 0 for another character.
+fn nibble(digit: u8) -> u32 {
+    char::from(digit)
+        .to_digit(16)
+        .filter(|_| !digit.is_ascii_uppercase())
+        .unwrap_or(0)
 }
 
 // The words of the program memory, each another one.
@@ -76,12 +80,11 @@ pub fn words(heap: Global, length: u32) -> Result<Vec<u32>, AllocError> {
         .collect(heap)
 }
 
-// The sum of the bytes, each times its place from 1, modulo 2^32.
+// The sum of the bytes, each times its place from 1, modulo 2^32. (As in image_vectors; a crate for it alone would be longer.)
 pub fn weighed(bytes: &[u8]) -> u32 {
-    bytes
-        .iter()
-        .zip(1..=u32::MAX)
-        .fold(0, |sum: u32, (byte, place)| {
-            sum.wrapping_add(place.wrapping_mul(u32::from(*byte)))
-        })
+    let (sum, _) = bytes.iter().fold((0u32, 1u32), |(sum, place), byte| {
+        let term = place.wrapping_mul(u32::from(*byte));
+        (sum.wrapping_add(term), place.wrapping_add(1))
+    });
+    sum
 }

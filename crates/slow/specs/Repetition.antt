@@ -1,4 +1,4 @@
--- The law of a request that is made of a slow memory again and again: its own waits come first, then those of the memory below, and
+-- The law of a request which is made of a slow memory again and again: its own waits come first, then those of the memory below, and
 -- then the answer is that of the memory below.
 use Rattle.std.specs.Prelude.{◌≡◌, ℕ, ◌+◌, ◌≤◌, false, ◌≢◌}
 use Rattle.memory.specs.Settling.{Waited, Settled}

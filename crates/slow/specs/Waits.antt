@@ -18,7 +18,7 @@ is_same (Data (Load a w)) (Data (Store b u t)) = false
 is_same (Data (Store a w v)) (Data (Load b u)) = false
 is_same (Data (Store a w v)) (Data (Store b u t)) = a == b && w == u && v == t
 
--- whether it is the request that waits
+-- whether it is the request which waits
 abbrev pub is_waiting : Option Waiting → Request → Bool
 is_waiting None x = false
 is_waiting (Some waiting) x = is_same waiting.request x
@@ -47,7 +47,7 @@ waits_with counter x given = record { own = counter.own; waiting = Some (record 
 abbrev pub after_own_wait : WaitCounter → Request → WaitCounter
 after_own_wait counter x = waits_with counter x (given_to counter x + 1)
 
--- after the memory below has answered: while it waits the own waits stay given, and a request that ended is forgotten
+-- after the memory below has answered: while it waits the own waits stay given, and a request which ended is forgotten
 abbrev pub after_below : WaitCounter → Request → Answer → WaitCounter
 after_below counter x (Done value) = record { own = counter.own; waiting = None }
 after_below counter x Absent = record { own = counter.own; waiting = None }

@@ -36,17 +36,17 @@ impl<M> Slow<M> {
     }
 }
 
-impl<M: Memory> Slow<M> {
-    // Does nothing; its contract is the law of a request that is repeated until it is answered.
-    pub fn repeated()
-        ensures { Repetition {S = Slow M} (λ s. s.counter) (λ s. s.below) M.Asked.request M.behaves M.waits }
+impl<M> Slow<M> {
+    // Does nothing; its contract is the law of a request which is repeated until it is answered.
+    pub fn repeated<A: AsRequest>()
+    where
+        M: Memory<A>,
+        ensures { Repetition {S = Slow M} (λ s. s.counter) (λ s. s.below) A.request M.behaves M.waits }
     {}
 }
 
 // It keeps what the memory below promises, with its own waits added.
-impl<M: Memory> Memory for Slow<M> {
-    type Asked = M::Asked;
-
+impl<A: AsRequest, M: Memory<A>> Memory<A> for Slow<M> {
     ghost Meaning = { M.Meaning };
 
     ghost means = { λ s. M.means s.below };
@@ -55,7 +55,7 @@ impl<M: Memory> Memory for Slow<M> {
 
     ghost shows = { M.shows };
 
-    ghost waits = { open_waits (λ s. s.counter) (λ s. s.below) M.Asked.request M.waits };
+    ghost waits = { open_waits (λ s. s.counter) (λ s. s.below) A.request M.waits };
 
     ghost sound = { λ s. M.sound s.below };
 
@@ -65,9 +65,11 @@ impl<M: Memory> Memory for Slow<M> {
 
     ghost longest = { λ k. k.0 + M.longest k.1 };
 
-    ghost behaves = { Delays (λ s. s.counter) (λ s. s.below) M.Asked.request M.behaves };
+    ghost behaves = { Delays (λ s. s.counter) (λ s. s.below) A.request M.behaves };
 
-    fn ask(&mut self, asked: M::Asked) -> Answer {
+    // As a call of its own it would cost as much again as what it does.
+    #[inline(always)]
+    fn ask(&mut self, asked: A) -> Answer {
         let request = asked.as_request();
         if self.counter.hold(request) {
             return Answer::Wait;
@@ -77,7 +79,7 @@ impl<M: Memory> Memory for Slow<M> {
         answer
     }
 
-    ghost bounded = { λ s x h. sum_bounded s.counter (M.Asked.request x) (M.bounded s.below x h) };
+    ghost bounded = { λ s x h. sum_bounded s.counter (A.request x) (M.bounded s.below x h) };
 }
 
 impl<P: ProgramMemory> ProgramMemory for Slow<P> {

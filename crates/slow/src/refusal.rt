@@ -6,8 +6,8 @@ use crate::counter::WAITS_LIMIT;
 use std::error::Error;
 use std::fmt;
 
-// A refusal, a limit and a check like those of storage: each crate's refusal is a type of its own, so that a caller of one
-// need not match what only the other can say.
+// A refusal and a check like those of storage, of six lines each: to share them, a crate below both would need a type for either
+// refusal and a check with a limit and a refusal to give, and be no shorter.
 //
 // Why a slow memory is refused when it is checked, by the number of each refusal.
 #[derive(Clone, Copy, Debug, PartialEq, Eq, Hash)]
@@ -17,6 +17,7 @@ pub enum WaitsRefusal {
 }
 
 impl WaitsRefusal {
+    // The number by which the refusal is known.
     pub fn number(self) -> u8
         ensures { result ≡ refusal_number self }
     {

@@ -13,6 +13,7 @@ pub enum LimitRefusal {
 }
 
 impl LimitRefusal {
+    // The number by which the refusal is known.
     pub fn number(self) -> u8
         ensures { result ≡ refusal_number self }
     {

@@ -18,6 +18,8 @@ use memory::{Access, Answer, DataMemory, Memory, PlainMemory};
 const PAGE: usize = 256;
 
 // A data memory over the caller's bytes, from address 0, with a mark for each page of 256 bytes: whether it is there. It never waits.
+// A type beside `Ram`: one type over which pages are there would need a trait with a law (an access lies within one page), for the
+// two of them, and be longer; loads, stores and their proofs are shared.
 #[derive(Drop)]
 pub struct PagedRam<'a> {
     bytes: &'a mut [u8],
@@ -83,9 +85,7 @@ impl<'a> PagedRam<'a> {
     }
 }
 
-impl<'a> Memory for PagedRam<'a> {
-    type Asked = Access;
-
+impl<'a> Memory<Access> for PagedRam<'a> {
     ghost Meaning = { Cells };
 
     ghost means = { λ s. cells_of (paged_uses s.pages) s.bytes.now };
@@ -106,6 +106,7 @@ impl<'a> Memory for PagedRam<'a> {
 
     ghost behaves = { λ s x r t. Accessed (paged_uses s.pages) s.bytes x r t.bytes × (t.pages ≡ s.pages) };
 
+    #[inline(always)]
     fn ask(&mut self, access: Access) -> Answer {
         match access {
             Access::Load { address, width } => self.read(address, width).into(),

@@ -50,9 +50,7 @@ impl<'a> Ram<'a> {
     }
 }
 
-impl<'a> Memory for Ram<'a> {
-    type Asked = Access;
-
+impl<'a> Memory<Access> for Ram<'a> {
     ghost Meaning = { Cells };
 
     ghost means = { λ s. cells_of ram_uses s.bytes.now };
@@ -73,6 +71,7 @@ impl<'a> Memory for Ram<'a> {
 
     ghost behaves = { λ s x r t. Accessed ram_uses s.bytes x r t.bytes };
 
+    #[inline(always)]
     fn ask(&mut self, access: Access) -> Answer {
         match access {
             Access::Load { address, width } => self.read(address, width).into(),

@@ -35,9 +35,7 @@ impl<'a> Rom<'a> {
     }
 }
 
-impl<'a> Memory for Rom<'a> {
-    type Asked = u32;
-
+impl<'a> Memory<u32> for Rom<'a> {
     ghost Meaning = { Cells };
 
     ghost means = { λ s. rom_words s.words.now };
@@ -58,6 +56,7 @@ impl<'a> Memory for Rom<'a> {
 
     ghost behaves = { λ s address r t. (r ≡ answer_of (fetched (rom_words s.words.now) address)) × (t ≡ s) };
 
+    #[inline(always)]
     fn ask(&mut self, address: u32) -> Answer {
         Answer::from(self.look(address))
     }

@@ -5,4 +5,4 @@ use Rattle.instruction.proofs.worked.worked_words.Goals as goal
 
 pub returns : goal.returns
 unfolding decoded_of
-returns c = (reads 0x00211020 _ (refl, (refl, (refl, (refl, (refl, tt))))), refl)
+returns c = record { worked = (reads 0x00211020 _ (refl, (refl, (refl, (refl, (refl, tt))))), refl); count = refl }

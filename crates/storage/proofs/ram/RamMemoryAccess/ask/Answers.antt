@@ -3,7 +3,7 @@ use Rattle.memory.specs.Bytes.{plain}
 use Rattle.memory.specs.Promise.{answer_of}
 use Rattle.storage.specs.Contents.{cells_of, ram_uses, bytes_after}
 use Rattle.storage.proofs.Storing.{accessed_says}
-use Rattle.storage.proofs.ram.RamMemory.ask.Goals as goal
+use Rattle.storage.proofs.ram.RamMemoryAccess.ask.Goals as goal
 
 pub returns-in-Store-clause-keeps : goal.returns-in-Store-clause-keeps
 returns-in-Store-clause-keeps c =

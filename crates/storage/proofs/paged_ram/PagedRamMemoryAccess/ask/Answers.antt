@@ -3,7 +3,7 @@ use Rattle.memory.specs.Bytes.{plain}
 use Rattle.memory.specs.Promise.{answer_of}
 use Rattle.storage.specs.Contents.{cells_of, paged_uses, bytes_after}
 use Rattle.storage.proofs.Storing.{accessed_says}
-use Rattle.storage.proofs.paged_ram.PagedRamMemory.ask.Goals as goal
+use Rattle.storage.proofs.paged_ram.PagedRamMemoryAccess.ask.Goals as goal
 
 pub returns-in-Store-clause-keeps : goal.returns-in-Store-clause-keeps
 returns-in-Store-clause-keeps c =
