@@ -56,7 +56,7 @@ fn word(digits: &str) -> anyhow::Result<u32> {
     Ok(u32::from_str_radix(digits, 16)?)
 }
 
-// Names are read by lists of this program's own, and not by a `FromStr` of `instruction`: what tries a crate does not lean on it.
+// Names are read here: three impls of `FromStr` in `instruction`, each with its definition, would be longer than these lists.
 fn alu_op(name: &str) -> Option<AluOp> {
     match name {
         "add" => Some(AluOp::Add),

@@ -1,7 +1,7 @@
 // Tries images, most of them damaged. Commands, one to a line: `new N` starts an image of N zero bytes, `set OFFSET BYTES`
 // writes bytes given in hexadecimal, `sum BLOCK` recomputes a block's check, `room WORDS BYTES` gives the memories
-// another length, and `try` loads the image into cleared memories
-// and prints the answer. What it must print was worked out by another program (vectors/images.py).
+// another length, and `try` loads the image into cleared memories and prints the answer. What it must print was worked out by another
+// program (vectors/images.py).
 #![tactic(auto)]
 
 use anyhow::anyhow;
@@ -100,7 +100,7 @@ fn number(words: &mut SplitWhitespace) -> anyhow::Result<usize> {
     Ok(words.next().unwrap_or("").parse()?)
 }
 
-// The value of a hexadecimal digit in lower case, or 0 for another character.
+// The value of a hexadecimal digit in lower case, or 0 for another character. (As in memory_vectors; a crate for it would be longer.)
 fn nibble(digit: u8) -> u8 {
     let value = char::from(digit)
         .to_digit(16)
@@ -116,7 +116,7 @@ fn word_sum(bytes: &[u8]) -> u32 {
         .fold(0, |sum, word| sum.wrapping_add(u32::from_le_bytes(*word)))
 }
 
-// The sum of the values, each times its place from 1, modulo 2^32.
+// The sum of the values, each times its place from 1, modulo 2^32. The place goes round with the sum; `1u32..` would pass its end.
 fn weighed<T: Copy + Into<u32>>(values: &[T]) -> u32 {
     let (sum, _) = values.iter().fold((0u32, 1u32), |(sum, place), value| {
         let term = place.wrapping_mul((*value).into());

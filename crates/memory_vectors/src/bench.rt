@@ -4,7 +4,7 @@ use memory::{Answer, DataMemory, Memory, ProgramMemory, Request, settle, settle_
 use memory_examples::{ask_each_once, settle_each};
 use std::alloc::AllocError;
 
-// Follows the commands in order.
+// Follows the commands in order. The conditions of both memories are clauses, and no field of a struct (see memory_examples).
 pub fn answer_all<P: ProgramMemory, D: DataMemory>(
     program: &mut P,
     data: &mut D,
@@ -56,7 +56,7 @@ fn answer<P: ProgramMemory, D: DataMemory>(
     }
 }
 
-// The answer that an access had, or the value or nothing that it had settled on.
+// An answer, or what was settled on: a value or nothing.
 fn show<A: Into<Answer>>(answers: &mut String, answer: A) -> Result<(), AllocError> {
     let answer = answer.into();
     writeln!(answers, "{answer}")

@@ -14,6 +14,7 @@ pub enum Command {
     Step(u32, Access),
 }
 
+// A match on the command: each reads other numbers, so a table of closures would be no plainer.
 pub fn parse(line: &str) -> anyhow::Result<Command> {
     let mut parts = line.split_whitespace();
     match parts.next().unwrap_or("") {

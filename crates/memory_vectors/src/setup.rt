@@ -65,7 +65,7 @@ fn marks(digits: &str) -> anyhow::Result<[bool; 256]> {
     Ok(array::from_fn(|page| { nibble(digits[page / 4]) << (page % 4) & 8 != 0 }))
 }
 
-// The value of a hexadecimal digit in lower case, or 0 for another character.
+// The value of a hexadecimal digit in lower case, or 0 for another character. (As in image_vectors; a crate for it would be longer.)
 fn nibble(digit: u8) -> u32 {
     char::from(digit)
         .to_digit(16)
@@ -73,7 +73,7 @@ fn nibble(digit: u8) -> u32 {
         .unwrap_or(0)
 }
 
-// The words of the program memory, each another one.
+// The words of the program memory, all different.
 pub fn words(heap: Global, length: u32) -> Result<Vec<u32>, AllocError> {
     (0..length)
         .map(|place| place.wrapping_mul(2654435761).wrapping_add(12345))

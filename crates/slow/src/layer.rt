@@ -34,9 +34,7 @@ impl<M> Slow<M> {
         let Slow { counter: _, below } = self;
         below
     }
-}
 
-impl<M> Slow<M> {
     // Does nothing; its contract is the law of a request which is repeated until it is answered.
     pub fn repeated<A: AsRequest>()
     where
@@ -67,7 +65,7 @@ impl<A: AsRequest, M: Memory<A>> Memory<A> for Slow<M> {
 
     ghost behaves = { Delays (λ s. s.counter) (λ s. s.below) A.request M.behaves };
 
-    // As a call of its own it would cost as much again as what it does.
+    // Left to itself the compiler calls this, at almost four times the instructions of a load (DECISIONS.md, Memories).
     #[inline(always)]
     fn ask(&mut self, asked: A) -> Answer {
         let request = asked.as_request();

@@ -6,9 +6,6 @@ use crate::counter::WAITS_LIMIT;
 use std::error::Error;
 use std::fmt;
 
-// A refusal and a check like those of storage, of six lines each: to share them, a crate below both would need a type for either
-// refusal and a check with a limit and a refusal to give, and be no shorter.
-//
 // Why a slow memory is refused when it is checked, by the number of each refusal.
 #[derive(Clone, Copy, Debug, PartialEq, Eq, Hash)]
 pub enum WaitsRefusal {
@@ -37,7 +34,8 @@ impl fmt::Display for WaitsRefusal {
 
 impl Error for WaitsRefusal {}
 
-// Whether a slow memory gives as many waits.
+// Whether a slow memory gives as many waits. Like the refusal and the check of storage: shared, they would need a type for either
+// refusal, and be no shorter.
 pub fn check_waits(waits: u32) -> Result<(), WaitsRefusal>
     ensures { result ≡ checked_waits waits }
 {

@@ -24,7 +24,8 @@ fn place(bytes: &[u8], address: u32, width: u32) -> Option<usize>
     there.then_some(place)
 }
 
-// A load: its bytes as one number, lowest first, if they are there.
+// A load: its bytes as one number, lowest first, if they are there. By cases of the width, as the store below: with a copy of `width`
+// bytes into an array the goal `returns` stays (tried), and a copy of a length that is not known would be a call.
 pub(crate) fn load(bytes: &[u8], address: u32, width: u32) -> Option<u32>
     ensures { result ≡ loaded (cells_of ram_uses bytes.now) address width }
 {

@@ -106,6 +106,7 @@ impl<'a> Memory<Access> for PagedRam<'a> {
 
     ghost behaves = { λ s x r t. Accessed (paged_uses s.pages) s.bytes x r t.bytes × (t.pages ≡ s.pages) };
 
+    // Left to itself the compiler calls this, at almost four times the instructions of a load (DECISIONS.md, Memories).
     #[inline(always)]
     fn ask(&mut self, access: Access) -> Answer {
         match access {

@@ -71,6 +71,7 @@ impl<'a> Memory<Access> for Ram<'a> {
 
     ghost behaves = { λ s x r t. Accessed ram_uses s.bytes x r t.bytes };
 
+    // Left to itself the compiler calls this, at almost four times the instructions of a load (DECISIONS.md, Memories).
     #[inline(always)]
     fn ask(&mut self, access: Access) -> Answer {
         match access {

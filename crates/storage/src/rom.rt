@@ -56,6 +56,7 @@ impl<'a> Memory<u32> for Rom<'a> {
 
     ghost behaves = { λ s address r t. (r ≡ answer_of (fetched (rom_words s.words.now) address)) × (t ≡ s) };
 
+    // Left to itself the compiler calls this, at almost four times the instructions of a load (DECISIONS.md, Memories).
     #[inline(always)]
     fn ask(&mut self, address: u32) -> Answer {
         Answer::from(self.look(address))
