@@ -121,7 +121,7 @@ def main():
             at = []
             for path in files():
                 text = open(path, encoding="utf-8").read().split("#[cfg(test)]\nmod tests {")[0]
-                at += [f"{path}:{n} {l.strip()}" for n, l in enumerate(text.split("\n"), 1) if re.search(pattern, l)]
+                at += [f"{path}:{n} {l.strip()}" for n, l in enumerate(text.split("\n"), 1) if re.search(pattern, l) and not l.lstrip().startswith("//")]
             found[point].append((kind, at))
     proofs = glob.glob("crates/*/proofs/**/*.antt", recursive=True)
     answers = [p for p in proofs if p.endswith("Answers.antt")]
