@@ -95,7 +95,8 @@ impl Bench {
     }
 }
 
-// The next word of a line, as a number.
+// The next word of a line, as a number. Inlined, as each line reads one or two (DECISIONS.md, Forms).
+#[inline(always)]
 fn number(words: &mut SplitWhitespace) -> anyhow::Result<usize> {
     Ok(words.next().unwrap_or("").parse()?)
 }

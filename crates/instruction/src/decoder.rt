@@ -28,15 +28,32 @@ fn decode_opcode(opcode: u32, word: u32) -> Option<Instruction>
 {
     // jal and jalr have the odd opcodes.
     let link = opcode & 1 == 1;
-    let IForm { rs1, rd, imm } = word.into();
-    let JForm { offset } = word.into();
-    let branch = |when| Some(Instruction::Branch { when, rs1, imm });
-    let alu = |op| Some(Instruction::AluImmediate { op, rd, rs1, imm });
-    let test = |test| Some(Instruction::TestImmediate { test, rd, rs1, imm });
-    let load = |kind| Some(Instruction::Load { kind, rd, rs1, imm });
-    let store = |kind| Some(Instruction::Store { kind, rd, rs1, imm });
-    match opcode {
-        0x02 | 0x03 => Some(Instruction::Jump { link, offset }),
+    // Each reads its fields where its row is taken: read before the match, they are read for every word (DECISIONS.md, Forms).
+    let branch = |when| {
+        let IForm { rs1, imm, .. } = word.into();
+        Instruction::Branch { when, rs1, imm }
+    };
+    let alu = |op| {
+        let IForm { rs1, rd, imm } = word.into();
+        Instruction::AluImmediate { op, rd, rs1, imm }
+    };
+    let test = |test| {
+        let IForm { rs1, rd, imm } = word.into();
+        Instruction::TestImmediate { test, rd, rs1, imm }
+    };
+    let load = |kind| {
+        let IForm { rs1, rd, imm } = word.into();
+        Instruction::Load { kind, rd, rs1, imm }
+    };
+    let store = |kind| {
+        let IForm { rs1, rd, imm } = word.into();
+        Instruction::Store { kind, rd, rs1, imm }
+    };
+    Some(match opcode {
+        0x02 | 0x03 => {
+            let JForm { offset } = word.into();
+            Instruction::Jump { link, offset }
+        }
         0x04 => branch(Condition::Zero),
         0x05 => branch(Condition::NotZero),
         0x08 => alu(AluOp::Add),
@@ -46,8 +63,14 @@ fn decode_opcode(opcode: u32, word: u32) -> Option<Instruction>
         0x0c => alu(AluOp::And),
         0x0d => alu(AluOp::Or),
         0x0e => alu(AluOp::Xor),
-        0x0f => Some(Instruction::LoadHighImmediate { rd, imm }),
-        0x16 | 0x17 => Some(Instruction::JumpRegister { link, rs1 }),
+        0x0f => {
+            let IForm { rd, imm, .. } = word.into();
+            Instruction::LoadHighImmediate { rd, imm }
+        }
+        0x16 | 0x17 => {
+            let IForm { rs1, .. } = word.into();
+            Instruction::JumpRegister { link, rs1 }
+        }
         0x18..=0x1f => test(opcode.into()),
         0x20 => load(LoadKind::Byte),
         0x21 => load(LoadKind::Half),
@@ -57,10 +80,13 @@ fn decode_opcode(opcode: u32, word: u32) -> Option<Instruction>
         0x28 => store(StoreKind::Byte),
         0x29 => store(StoreKind::Half),
         0x2b => store(StoreKind::Word),
-        0x3e => Some(Instruction::Trap { offset }),
-        0x3f => Some(Instruction::ReturnFromException),
-        _ => None,
-    }
+        0x3e => {
+            let JForm { offset } = word.into();
+            Instruction::Trap { offset }
+        }
+        0x3f => Instruction::ReturnFromException,
+        _ => return None,
+    })
 }
 
 // The instruction of a word with opcode 0, by its function.
@@ -71,20 +97,25 @@ fn decode_function(word: u32) -> Option<Instruction>
     let function = bits(word, 0, 6);
     let form = RForm::from(word);
     let RForm { rs1, rs2, rd, sa } = form;
-    let special = form.special();
-    let shift_immediate = |op| Some(Instruction::ShiftImmediate { op, rd, rs1, sa });
-    let shift = |op| Some(Instruction::Shift { op, rd, rs1, rs2 });
-    let alu = |op| Some(Instruction::Alu { op, rd, rs1, rs2 });
-    let test = |test| Some(Instruction::Test { test, rd, rs1, rs2 });
-    match function {
+    let shift_immediate = |op| Instruction::ShiftImmediate { op, rd, rs1, sa };
+    let shift = |op| Instruction::Shift { op, rd, rs1, rs2 };
+    let alu = |op| Instruction::Alu { op, rd, rs1, rs2 };
+    let test = |test| Instruction::Test { test, rd, rs1, rs2 };
+    Some(match function {
         0x00 => shift_immediate(ShiftOp::Left),
         0x02 => shift_immediate(ShiftOp::Right),
         0x03 => shift_immediate(ShiftOp::RightArithmetic),
         0x04 => shift(ShiftOp::Left),
         0x06 => shift(ShiftOp::Right),
         0x07 => shift(ShiftOp::RightArithmetic),
-        0x10 => special.map(|special| Instruction::ReadSpecial { rd, special }),
-        0x11 => special.map(|special| Instruction::WriteSpecial { special, rs1 }),
+        0x10 => Instruction::ReadSpecial {
+            rd,
+            special: form.special()?,
+        },
+        0x11 => Instruction::WriteSpecial {
+            special: form.special()?,
+            rs1,
+        },
         0x20 => alu(AluOp::Add),
         0x21 => alu(AluOp::AddUnsigned),
         0x22 => alu(AluOp::Sub),
@@ -92,8 +123,8 @@ fn decode_function(word: u32) -> Option<Instruction>
         0x24 => alu(AluOp::And),
         0x25 => alu(AluOp::Or),
         0x26 => alu(AluOp::Xor),
-        0x27 => Some(Instruction::LoadHigh { rd, rs2 }),
+        0x27 => Instruction::LoadHigh { rd, rs2 },
         0x28..=0x2f => test(function.into()),
-        _ => None,
-    }
+        _ => return None,
+    })
 }

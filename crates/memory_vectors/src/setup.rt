@@ -53,11 +53,15 @@ pub fn parse(line: &str) -> anyhow::Result<Option<Setup>> {
     }))
 }
 
+// Inlined, and the marks kept out of what is inlined: each line of commands reads a few numbers, and few lines read marks (DECISIONS.md,
+// Forms).
+#[inline(always)]
 pub fn number(parts: &mut SplitWhitespace<'_>) -> anyhow::Result<u32> {
     Ok(parts.next().context("a number is missing")?.parse::<u32>()?)
 }
 
 // The marks of the pages, page 0 first, the highest bit of a digit first.
+#[inline(never)]
 fn marks(digits: &str) -> anyhow::Result<[bool; 256]> {
     let Some(digits) = digits.as_bytes().first_chunk::<64>() else {
         return Err(anyhow!("64 digits for the pages"));
