@@ -1,5 +1,5 @@
 -- A walk over the blocks of an image, one step at a time. A crate that reads an image by a `Reader` can cite these too.
-use Rattle.std.proofs.Common.{◌≡◌, ℕ, ◌+◌, ◌<◌, ◌≤◌, false, List, length, Some, None, Ok, Err, Option, Result, refl, sym, ap, ◌∙◌, subst, arith, below_more}
+use Rattle.std.proofs.Common.{◌≡◌, ℕ, ◌+◌, ◌-◌, ◌<◌, ◌≤◌, false, List, length, Some, None, Ok, Err, Option, Result, refl, sym, ap, ◌∙◌, subst, arith, below_more}
 use Rattle.std.specs.Prelude.{◌==◌}
 use Rattle.image.specs.declared.Ends.{Ends}
 use Rattle.image.specs.declared.Fault.{Fault}
@@ -63,6 +63,10 @@ module _ (image : List ℕ) (ends : Ends) where
           holds = subst (λ l. Holds (block_at l (reader_place s)) (reader_place s) b) w.over d.holds;
           next_place = d.moved.at_place;
         }
+
+    -- a step leaves fewer blocks to come
+    pub walk_falls : (b : Block) → Stepped s (Ok (Some b)) t → block_count image - reader_place t < block_count image - reader_place s
+    walk_falls b d = omega (arith, count, d.inside, d.moved.at_place)
 
     pub walk_done : Stepped s (Ok None) t → (first_refusal image ends ≡ None) × Accepted image ends
     walk_done d = accepted image ends w.sized (λ j l. w.sound j (omega (arith, count, d.past)))

@@ -48,6 +48,7 @@ fn time<D: DataMemory>(
     count: u32,
 ) -> anyhow::Result<()>
     requires { D.sound memory.old }
+    ensures { D.sound memory.new }
 {
     let start = Instant::now(rt)?;
     let sum = sum_of_loads(memory, count);
@@ -62,6 +63,7 @@ fn time<D: DataMemory>(
 // memory from call to call.
 fn sum_of_loads<D: DataMemory>(memory: &mut D, count: u32) -> u32
     requires { D.sound memory.old }
+    ensures { D.sound memory.new }
 {
     let mut sum = 0u32;
     for i in 0..count {

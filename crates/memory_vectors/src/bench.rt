@@ -13,6 +13,8 @@ pub fn answer_all<P: ProgramMemory, D: DataMemory>(
 ) -> Result<(), AllocError>
     requires program_sound { P.sound program.old }
     requires data_sound { D.sound «data».old }
+    ensures program_kept { P.sound program.new }
+    ensures data_kept { D.sound «data».new }
 {
     for command in commands {
         answer(program, data, *command, answers)?;
