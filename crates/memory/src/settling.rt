@@ -23,7 +23,7 @@ pub fn settle<A: AsRequest, M: Memory<A>>(memory: &mut M, asked: A) -> Option<u3
 // The word at an address, or nothing where it is absent.
 pub fn settle_fetch<P: ProgramMemory>(memory: &mut P, address: u32) -> Option<u32>
     requires { P.sound memory.old }
-    ensures { FetchSettled P.Memory memory.old address result memory.new }
+    ensures { FetchSettled ⟦<P as Memory<u32>>⟧ memory.old address result memory.new }
 {
     settle(memory, address)
 }

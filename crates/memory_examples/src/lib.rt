@@ -3,7 +3,7 @@
 
 mod shapes;
 
-pub use shapes::{ask_each_once, settle_each};
+pub use shapes::{ask_each_once, fetch_word, load_word, settle_each};
 
 #[cfg(test)]
 mod tests;

@@ -1,5 +1,5 @@
 // An example for each public function of the memories.
-use crate::shapes::{ask_each_once, settle_each};
+use crate::shapes::{ask_each_once, fetch_word, load_word, settle_each};
 use memory::{
     Access, Answer, AsRequest, DataMemory, Memory, ProgramMemory, Request, plain_bytes,
     promises_plain_bytes, settle, settle_fetch,
@@ -91,6 +91,16 @@ fn stores_in_the_bytes_of_the_caller(rt: HostRuntime) {
     assert!(rt; bytes == [0, 0, 0, 0, 0, 0, 0, 0, 0x45, 0x23]);
 }
 
+// Memories that are lent without their kind.
+#[test]
+fn lends_any_kind(rt: HostRuntime) {
+    let mut bytes = BYTES;
+    let words = [5, 6];
+    assert!(rt; load_word(&mut Ram::new(&mut bytes), 4) == Answer::Done(0));
+    assert!(rt; load_word(&mut Ram::new(&mut bytes), 8) == Answer::Absent);
+    assert!(rt; fetch_word(&mut Rom::new(&words), 4) == Answer::Done(6));
+}
+
 #[test]
 fn leaves_pages_out(rt: HostRuntime) {
     let mut bytes = BYTES;
@@ -108,6 +118,13 @@ fn gives_own_waits_first(rt: HostRuntime) {
     let mut slow = Slow::new(2, Slow::new(1, Ram::new(&mut bytes)));
     assert!(rt; waits_then_seven(&mut slow, &[WIDE, WIDE, WIDE, WIDE]));
     assert!(rt; slow.load(8, 2) == Answer::Wait && slow.look(8) == Some(7));
+}
+
+#[test]
+fn asks_below_after_own_waits(rt: HostRuntime) {
+    let mut bytes = BYTES;
+    let mut slow = Slow::new(1, Ram::new(&mut bytes));
+    assert!(rt; slow.ask(WIDE) == Answer::Wait && slow.ask(WIDE) == Answer::Done(7));
 }
 
 #[test]

@@ -3,7 +3,9 @@
 
 mod counter;
 mod counter_state;
+mod data_layer;
 mod layer;
+mod program_layer;
 mod refusal;
 
 pub use counter::WAITS_LIMIT;

@@ -1,5 +1,5 @@
-// Loads and stores over a slice of bytes, from address 0, of which at most 65,536 are used. Address and width are the parts of an
-// access, which the memory that is asked has taken apart once: a struct of the two would be made and taken apart again.
+// Loads and stores over a slice of bytes, from address 0, of which at most 65,536 are used. Address and width stay the parts that a
+// memory is asked a load or a store with: a struct of the two would be made and taken apart again.
 ghost use Rattle.std.specs.Prelude.{◌≡◌};
 ghost use Rattle.std.specs.Option.{option_map};
 ghost use Rattle.memory.specs.Bytes.{loaded};

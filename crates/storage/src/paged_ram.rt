@@ -12,7 +12,7 @@ ghost use Rattle.storage.specs.Limits.{checked_by};
 use crate::bytes;
 use crate::bytes::RAM_LIMIT;
 use crate::limit::{LimitRefusal, check_length};
-use memory::{Access, Answer, DataMemory, Memory, PlainMemory};
+use memory::{Answer, DataMemory, PlainMemory};
 
 // How many bytes a page has.
 const PAGE: usize = 256;
@@ -85,7 +85,7 @@ impl<'a> PagedRam<'a> {
     }
 }
 
-impl<'a> Memory<Access> for PagedRam<'a> {
+impl<'a> DataMemory for PagedRam<'a> {
     ghost Meaning = { Cells };
 
     ghost means = { λ s. cells_of (paged_uses s.pages) s.bytes.now };
@@ -106,23 +106,14 @@ impl<'a> Memory<Access> for PagedRam<'a> {
 
     ghost behaves = { λ s x r t. Accessed (paged_uses s.pages) s.bytes x r t.bytes × (t.pages ≡ s.pages) };
 
-    // Left to itself the compiler calls this, at almost four times the instructions of a load (DECISIONS.md, Memories).
-    #[inline(always)]
-    fn ask(&mut self, access: Access) -> Answer {
-        match access {
-            Access::Load { address, width } => self.read(address, width).into(),
-            Access::Store {
-                address,
-                width,
-                value,
-            } => self.write(address, width, value).into(),
-        }
+    fn load(&mut self, address: u32, width: u32) -> Answer {
+        self.read(address, width).into()
     }
 
-    ghost bounded = { Prim.search rules };
-}
+    fn store(&mut self, address: u32, width: u32, value: u32) -> Answer {
+        self.write(address, width, value).into()
+    }
 
-impl<'a> DataMemory for PagedRam<'a> {
     fn look(&self, address: u32) -> Option<u8> {
         if self.has_page(address) {
             bytes::look(self.bytes, address)
@@ -130,6 +121,8 @@ impl<'a> DataMemory for PagedRam<'a> {
             None
         }
     }
+
+    ghost bounded = { Prim.search rules };
 
     ghost grounded = { Prim.search rules };
 }

@@ -10,7 +10,7 @@ ghost use Rattle.storage.specs.Limits.{checked_by};
 use crate::bytes;
 use crate::bytes::RAM_LIMIT;
 use crate::limit::{LimitRefusal, check_length};
-use memory::{Access, Answer, DataMemory, Memory, PlainMemory};
+use memory::{Answer, DataMemory, PlainMemory};
 
 // A data memory over the caller's bytes, from address 0. It never waits.
 #[derive(Drop)]
@@ -50,7 +50,7 @@ impl<'a> Ram<'a> {
     }
 }
 
-impl<'a> Memory<Access> for Ram<'a> {
+impl<'a> DataMemory for Ram<'a> {
     ghost Meaning = { Cells };
 
     ghost means = { λ s. cells_of ram_uses s.bytes.now };
@@ -71,26 +71,19 @@ impl<'a> Memory<Access> for Ram<'a> {
 
     ghost behaves = { λ s x r t. Accessed ram_uses s.bytes x r t.bytes };
 
-    // Left to itself the compiler calls this, at almost four times the instructions of a load (DECISIONS.md, Memories).
-    #[inline(always)]
-    fn ask(&mut self, access: Access) -> Answer {
-        match access {
-            Access::Load { address, width } => self.read(address, width).into(),
-            Access::Store {
-                address,
-                width,
-                value,
-            } => bytes::store(self.bytes, address, width, value).into(),
-        }
+    fn load(&mut self, address: u32, width: u32) -> Answer {
+        self.read(address, width).into()
     }
 
-    ghost bounded = { Prim.search rules };
-}
+    fn store(&mut self, address: u32, width: u32, value: u32) -> Answer {
+        bytes::store(self.bytes, address, width, value).into()
+    }
 
-impl<'a> DataMemory for Ram<'a> {
     fn look(&self, address: u32) -> Option<u8> {
         bytes::look(self.bytes, address)
     }
+
+    ghost bounded = { Prim.search rules };
 
     ghost grounded = { Prim.search rules };
 }

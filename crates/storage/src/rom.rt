@@ -8,7 +8,7 @@ ghost use Rattle.storage.specs.Contents.{rom_words};
 ghost use Rattle.storage.specs.Limits.{checked_by};
 
 use crate::limit::{LimitRefusal, check_length};
-use memory::{Answer, Memory, ProgramMemory};
+use memory::{Answer, ProgramMemory};
 
 // The most words that ROM uses.
 pub const ROM_LIMIT: usize = 16384;
@@ -35,7 +35,7 @@ impl<'a> Rom<'a> {
     }
 }
 
-impl<'a> Memory<u32> for Rom<'a> {
+impl<'a> ProgramMemory for Rom<'a> {
     ghost Meaning = { Cells };
 
     ghost means = { λ s. rom_words s.words.now };
@@ -56,16 +56,10 @@ impl<'a> Memory<u32> for Rom<'a> {
 
     ghost behaves = { λ s address r t. (r ≡ answer_of (fetched (rom_words s.words.now) address)) × (t ≡ s) };
 
-    // Left to itself the compiler calls this, at almost four times the instructions of a load (DECISIONS.md, Memories).
-    #[inline(always)]
-    fn ask(&mut self, address: u32) -> Answer {
+    fn fetch(&mut self, address: u32) -> Answer {
         Answer::from(self.look(address))
     }
 
-    ghost bounded = { Prim.search rules };
-}
-
-impl<'a> ProgramMemory for Rom<'a> {
     fn look(&self, address: u32) -> Option<u32> {
         let place = (address / 4) as usize;
         if address % 4 == 0 && place < ROM_LIMIT {
@@ -74,6 +68,8 @@ impl<'a> ProgramMemory for Rom<'a> {
             None
         }
     }
+
+    ghost bounded = { Prim.search rules };
 
     ghost fetches = { Prim.search rules };
 }
