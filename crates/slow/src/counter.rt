@@ -33,6 +33,9 @@ impl WaitCounter {
         ensures held { result ≡ nat_lt 0 (remaining self.old request) }
         ensures after { self.new ≡ (if result then after_own_wait self.old request else self.old) }
     {
+        if self.own == 0 {
+            return false;
+        }
         match &mut self.waiting {
             // Counted in place: a request which is written anew with each wait costs twice the time (DECISIONS.md, Memories).
             Some(waiting) if waiting.request == request => {
@@ -41,12 +44,7 @@ impl WaitCounter {
                 }
                 waiting.given += 1;
             }
-            waiting => {
-                if self.own == 0 {
-                    return false;
-                }
-                *waiting = Some(Waiting { request, given: 1 });
-            }
+            waiting => *waiting = Some(Waiting { request, given: 1 }),
         }
         true
     }

@@ -27,10 +27,13 @@ impl<D: DataMemory> DataMemory for Slow<D> {
 
     ghost behaves = { Delays (λ s. s.counter) (λ s. s.below) Data D.behaves };
 
+    // In the place of its call, as `ask` is.
+    #[inline(always)]
     fn load(&mut self, address: u32, width: u32) -> Answer {
         self.ask(Access::Load { address, width })
     }
 
+    #[inline(always)]
     fn store(&mut self, address: u32, width: u32, value: u32) -> Answer {
         self.ask(Access::Store {
             address,

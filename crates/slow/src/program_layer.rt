@@ -27,6 +27,8 @@ impl<P: ProgramMemory> ProgramMemory for Slow<P> {
 
     ghost behaves = { Delays (λ s. s.counter) (λ s. s.below) Fetch P.behaves };
 
+    // In the place of its call, as `ask` is.
+    #[inline(always)]
     fn fetch(&mut self, address: u32) -> Answer {
         self.ask(address)
     }
